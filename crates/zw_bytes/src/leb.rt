@@ -1,0 +1,73 @@
+// LEB128 numbers (WebAssembly Core 1.0, section 5.2.2).
+ghost use Rattle.std.specs.Prelude.{◌≡◌, ◌+◌, ◌*◌, ◌≤◌, ◌<◌, ◌^◌, ◌∷◌, ◌++◌, length, List, ℕ, ℤ};
+ghost use Rattle.std.specs.Int.{w64};
+ghost use Rattle.std.specs.Int.RustNames.{FitsSigned};
+ghost use Rattle.zw_bytes.specs.Leb.{unsigned_leb, signed_leb, groups, low_group as low_group_of, IsUnsignedLeb, IsSignedLeb};
+
+use crate::buffer::ByteBuf;
+
+/// Below this an unsigned number fits its last byte.
+const UNSIGNED_LIMIT: u64 = 128;
+
+/// Below this a signed number, or `-(n + 1)` for a negative one, fits its last byte beside the sign.
+const SIGNED_LIMIT: u64 = 64;
+
+impl ByteBuf {
+    /// Appends an unsigned number in its shortest form, at most five bytes.
+    pub fn put_u32(&mut self, v: u32)
+        requires { 5 ≤ self.old.spare }
+        ensures bytes { self.new.bytes ≡ self.old.bytes ++ unsigned_leb v }
+        ensures spare { self.new.spare + length (unsigned_leb v) ≡ self.old.spare }
+    {
+        self.put_groups(u64::from(v), UNSIGNED_LIMIT, false);
+    }
+
+    /// Appends a signed number in its shortest form, at most five bytes.
+    #[tactic(auto, using(crate::proofs::LebLemmas::signed_room, crate::proofs::LebLemmas::signed_negative, crate::proofs::LebLemmas::signed_positive))]
+    pub fn put_s32(&mut self, v: i32)
+        requires { 5 ≤ self.old.spare }
+        ensures bytes { self.new.bytes ≡ self.old.bytes ++ signed_leb v }
+        ensures spare { self.new.spare + length (signed_leb v) ≡ self.old.spare }
+    {
+        let magnitude = u64::from(v.unsigned_abs());
+        if v < 0 {
+            self.put_groups(magnitude - 1, SIGNED_LIMIT, true);
+        } else {
+            self.put_groups(magnitude, SIGNED_LIMIT, false);
+        }
+    }
+
+    /// Appends the groups of `n`, or where `negative` says so of `-(n + 1)`.
+    fn put_groups(&mut self, n: u64, limit: u64, negative: bool)
+        requires limit { (64 ≤ limit) × (limit ≤ 128) }
+        requires room { length (groups limit negative 10 n) ≤ self.old.spare }
+        ensures bytes { self.new.bytes ≡ self.old.bytes ++ groups limit negative 10 n }
+        ensures spare { self.new.spare + length (groups limit negative 10 n) ≡ self.old.spare }
+    {
+        let mut rest = n;
+        while rest >= limit {
+            self.put(128 + low_group(rest, negative));
+            rest /= 128;
+        }
+        self.put(low_group(rest, negative));
+    }
+}
+
+/// The low seven bits of `n`, or where `negative` says so of `-(n + 1)`.
+fn low_group(n: u64, negative: bool) -> u8
+    ensures value { result ≡ low_group_of negative n }
+    ensures small { result < 128 }
+{
+    let low = (n % 128) as u8;
+    if negative { 127 - low } else { low }
+}
+
+/// The bytes that `put_u32` and `put_s32` append are the one form of their number: they meet the
+/// grammar, and no form of a number begins another, so that what was written is read again, whatever
+/// follows it.
+pub fn one_form()
+    ensures unsigned { (n : ℕ) → n < 2 ^ 64 → IsUnsignedLeb (unsigned_leb n) n }
+    ensures unsigned_one { (a b x y : List ℕ) (m n : ℕ) → IsUnsignedLeb a m → IsUnsignedLeb b n → a ++ x ≡ b ++ y → (a ≡ b) × (m ≡ n) }
+    ensures signed { (z : ℤ) → FitsSigned w64 z → IsSignedLeb (signed_leb z) z }
+    ensures signed_one { (a b x y : List ℕ) (m n : ℤ) → IsSignedLeb a m → IsSignedLeb b n → a ++ x ≡ b ++ y → (a ≡ b) × (m ≡ n) }
+{}
