@@ -1,1 +1,2 @@
 pub mod DiagCode
+pub mod Path

@@ -8,7 +8,9 @@
 #![tactic(auto)]
 
 mod diag;
+mod path;
 mod seq;
 
 pub use diag::{DiagCode, Found, Span};
+pub use path::{FilePath, FileSizes, FileTexts, PathFault};
 pub use seq::{Bytes, Seq};
