@@ -1,5 +1,5 @@
 -- What a path is, and the fault of a text that is none.
-use Rattle.std.specs.Prelude.{◌≡◌, ℕ, ◌<◌, ◌≤◌, Bool, true, false, nat_lt, nat_le, ◌==◌, ◌||◌, ◌&&◌, if◌then◌else◌, List, [], ◌∷◌, length, slice_index, Option, None, Some, Result, Ok, Err}
+use Rattle.std.specs.Prelude.{◌≡◌, ℕ, Bool, true, false, nat_lt, nat_le, ◌==◌, ◌||◌, ◌&&◌, if◌then◌else◌, List, [], ◌∷◌, length, slice_index, Option, None, Some, Result, Ok, Err}
 use Rattle.std.specs.List.{slice_split, list_any, list_all}
 use Rattle.zw_base.specs.declared.path.PathFault.{PathFault}
 use Rattle.zw_base.specs.declared.path.PathFault.TheVariants.{Empty, TooLong, BadByte, BadPart, OutOfMemory}

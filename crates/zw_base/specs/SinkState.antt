@@ -1,5 +1,5 @@
 -- What contracts see of a sink in memory, and what its calls do.
-use Rattle.std.specs.Prelude.{◌≡◌, ℕ, ◌+◌, ◌-◌, ◌==◌, min, Bool, true, false, if◌then◌else◌, ◌&&◌, ◌||◌, not, nat_lt, List, ◌++◌, length, take, Result, Ok, Err}
+use Rattle.std.specs.Prelude.{ℕ, ◌-◌, ◌==◌, min, Bool, if◌then◌else◌, ◌&&◌, ◌||◌, nat_lt, List, ◌++◌, length, take, Result, Ok, Err}
 use Rattle.zw_base.specs.Plan.{Plan, fails_next, after_call, after_fault}
 use Rattle.zw_base.specs.declared.sink.Failed.{Failed}
 
