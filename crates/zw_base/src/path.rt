@@ -35,7 +35,7 @@ pub enum PathFault {
 const MOST_BYTES: usize = 255;
 
 /// A path of a source file, divided by `/`, relative to the folder in which the program runs.
-#[derive(Debug, Drop)]
+#[derive(Clone, Debug, Drop)]
 pub struct FilePath {
     text: String,
 }

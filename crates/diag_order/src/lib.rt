@@ -1,0 +1,9 @@
+//! Diagnostics in their places: what a compilation answers where it gives no module.
+//!
+//! The model: a `Line` is a diagnostic with its path, line and column, as it is printed.
+//! The crate stands on `zw_base` alone.
+#![tactic(auto)]
+
+mod line;
+
+pub use line::{Diag, Line};
