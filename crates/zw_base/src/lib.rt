@@ -9,6 +9,7 @@
 
 mod diag;
 mod files;
+pub mod limits;
 mod path;
 mod plan;
 mod seq;
