@@ -1,0 +1,6 @@
+pub mod Beyond
+pub mod Ranges
+pub mod Rounding
+pub mod BitsOf
+pub mod Shifts
+pub mod Causes

@@ -1,0 +1,5 @@
+pub mod Division
+pub mod Bits
+pub mod IntType
+pub mod IntOut
+pub mod Exact
