@@ -1,5 +1,5 @@
 -- The bits of two's complement that the code works on are those of the residue.
-use Rattle.std.proofs.Common.{ℕ, suc, ℤ, pos, negsuc, ◌^◌, ◌-◌, ◌-ℤ◌, ◌<◌, ◌≤◌, ◌≡◌, inl, inr, arith, refl, Bool, true, false, FitsSigned, to_z, of_z, ap, ◌∙◌, sym}
+use Rattle.std.proofs.Common.{ℕ, ℤ, pos, negsuc, ◌^◌, ◌<◌, ◌≡◌, arith, FitsSigned, to_z, of_z}
 use Rattle.std.proofs.lemmas.Int.{ints}
 use Rattle.std.specs.Int.{w128}
 use Rattle.int_ops.specs.IntType.{residue, signed_of}

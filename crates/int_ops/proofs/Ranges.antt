@@ -1,6 +1,6 @@
 -- Each range holds 0 and lies within 128 bits, and wrapping to 128 bits on the way changes no wrapped value.
-use Rattle.std.proofs.Common.{ℕ, suc, ℤ, pos, negsuc, neg_ℤ, ◌^◌, ◌*◌, ◌+◌, ◌-◌, ◌%◌, ◌/◌, ◌+ℤ◌, ◌-ℤ◌, ◌<ℤ◌, ◌≤ℤ◌, ◌<◌, ◌≤◌, ◌⊎◌, inl, inr, arith, ◌≡◌, ap, ◌∙◌, sym, refl, Bool, true, false}
-use Rattle.std.proofs.lemmas.Int.{ints, by_lt_z, int_rem_euclid_is, to_z_pos}
+use Rattle.std.proofs.Common.{ℕ, suc, ℤ, pos, negsuc, neg_ℤ, ◌^◌, ◌*◌, ◌+◌, ◌-◌, ◌%◌, ◌/◌, ◌+ℤ◌, ◌<ℤ◌, ◌≤ℤ◌, ◌<◌, ◌≤◌, inl, inr, arith, ◌≡◌, ap, ◌∙◌, sym, refl, true, false}
+use Rattle.std.proofs.lemmas.Int.{ints, int_rem_euclid_is, to_z_pos}
 use Rattle.std.proofs.lemmas.Nat.{pow_pos, pow_below, pow-add, mod-pow-add, mod-mul-add, mod_below, div-add-mod'}
 use Rattle.std.proofs.Math.Nat.{mul_assoc}
 use Rattle.std.proofs.Math.Facts.{to_z-neg}
@@ -12,9 +12,8 @@ use Rattle.int_ops.specs.declared.types.IntType.{IntType}
 use Rattle.int_ops.specs.declared.types.IntType.TheVariants.{Signed, Unsigned, Comptime}
 use Rattle.int_ops.specs.declared.types.Mode.{Mode}
 use Rattle.int_ops.specs.declared.types.Mode.TheVariants.{Checked, Wrap, Saturate}
-use Rattle.int_ops.specs.declared.types.IntOut.{IntOut}
 use Rattle.int_ops.specs.declared.types.IntOut.TheVariants.{Value}
-use Rattle.int_ops.specs.IntType.{lowest_of, highest_of, wrapped, residue, signed_of}
+use Rattle.int_ops.specs.IntType.{lowest_of, highest_of, residue, signed_of}
 use Rattle.int_ops.specs.IntOut.{beyond, outcome}
 
 pub lowest-bounds : (t : IntType) → (neg_ℤ (pos (2 ^ 127)) ≤ℤ lowest_of t) × (lowest_of t ≤ℤ pos 0)

@@ -1,5 +1,5 @@
 -- The quotient rounded toward zero against the one rounded down, and their remainders.
-use Rattle.std.proofs.Common.{ℕ, zero, suc, ℤ, pos, negsuc, neg_ℤ, ◌^◌, ◌*◌, ◌+◌, ◌-◌, ◌%◌, ◌/◌, ◌+ℤ◌, ◌-ℤ◌, ◌<ℤ◌, ◌≤ℤ◌, ◌<◌, ◌≤◌, ◌⊎◌, inl, inr, arith, ◌≡◌, ◌≢◌, ap, ◌∙◌, sym, refl, Bool, true, false}
+use Rattle.std.proofs.Common.{ℕ, zero, suc, ℤ, pos, negsuc, neg_ℤ, ◌^◌, ◌*◌, ◌+◌, ◌-◌, ◌%◌, ◌/◌, ◌+ℤ◌, ◌-ℤ◌, ◌<ℤ◌, ◌≤ℤ◌, ◌<◌, ◌≤◌, inl, inr, arith, ◌≡◌, ◌≢◌, ap, ◌∙◌, refl, true, false}
 use Rattle.std.proofs.lemmas.Int.{ints}
 use Rattle.std.proofs.lemmas.Nat.{div_below, div-mul-add, mod-mul-add, mod_below, div-add-mod'}
 use Rattle.std.proofs.lemmas.Bool.{cases_lt}

@@ -1,15 +1,14 @@
 -- Shifts at the comptime type by amounts from 127 on.
-use Rattle.std.proofs.Common.{ℕ, zero, suc, ℤ, pos, negsuc, neg_ℤ, ◌^◌, ◌*◌, ◌*ℤ◌, ◌<ℤ◌, ◌≤ℤ◌, ◌<◌, ◌≤◌, arith, ◌≡◌, ◌≢◌, sym, ◌∙◌, refl, ap, Bool, true, false}
+use Rattle.std.proofs.Common.{ℕ, zero, suc, ℤ, pos, negsuc, neg_ℤ, ◌^◌, ◌*◌, ◌*ℤ◌, ◌<ℤ◌, ◌≤ℤ◌, ◌≤◌, arith, ◌≡◌, ◌≢◌, refl, ap, false}
 use Rattle.std.proofs.lemmas.Int.{ints}
 use Rattle.std.proofs.Math.Nat.{pow-le-pow_right}
-use Rattle.std.specs.Int.{w128, int_wrap}
-use Rattle.std.specs.Prelude.{unsigned_abs, int_lt, int_le, nat_le, ◌||◌}
+use Rattle.std.specs.Prelude.{unsigned_abs}
 use Rattle.int_ops.specs.declared.types.IntType.{IntType}
 use Rattle.int_ops.specs.declared.types.IntType.TheVariants.{Signed, Unsigned, Comptime}
 use Rattle.int_ops.specs.declared.types.Mode.{Mode}
 use Rattle.int_ops.specs.declared.types.IntOut.{IntOut}
 use Rattle.int_ops.specs.declared.types.IntOut.TheVariants.{Overflow}
-use Rattle.int_ops.specs.IntOut.{outcome, is_bad_shift}
+use Rattle.int_ops.specs.IntOut.{outcome, is_bad_shift, unless_bad_shift}
 use Rattle.int_ops.proofs.Ranges.{outcome_above, outcome_below}
 
 two_to_far : (n k : ℕ) → k ≤ n → 2 ^ k ≤ 2 ^ n
@@ -38,3 +37,6 @@ pub comptime_if_far : (amount : ℤ) (t : IntType) → pos 127 ≤ℤ amount →
 comptime_if_far amount (Signed width) far good = absurd (grind (arith, ints, width.at_most_64))
 comptime_if_far amount (Unsigned width) far good = absurd (grind (arith, ints, width.at_most_64))
 comptime_if_far amount Comptime far good = refl
+
+pub far_answer : (r : IntOut) (a b : ℤ) (t : IntType) (mode : Mode) → pos 127 ≤ℤ b → is_bad_shift b t ≡ false → r ≡ outcome (a *ℤ pos (2 ^ unsigned_abs b)) Comptime mode → r ≡ unless_bad_shift b t (outcome (a *ℤ pos (2 ^ unsigned_abs b)) t mode)
+far_answer r a b t mode far good is = rw (good, comptime_if_far b t far good) is

@@ -1,5 +1,5 @@
 -- What an operation answers, from its exact result over the integers.
-use Rattle.std.specs.Prelude.{ℕ, zero, ℤ, pos, negsuc, Bool, true, false, int_lt, int_le, ◌||◌, ◌≡◌, ◌⊎◌, ◌<ℤ◌, ◌≤ℤ◌, if◌then◌else◌}
+use Rattle.std.specs.Prelude.{zero, ℤ, pos, Bool, int_lt, int_le, ◌||◌, ◌≡◌, ◌⊎◌, ◌<ℤ◌, ◌≤ℤ◌, if◌then◌else◌}
 use Rattle.int_ops.specs.declared.types.IntType.{IntType}
 use Rattle.int_ops.specs.declared.types.IntType.TheVariants.{Signed, Unsigned, Comptime}
 use Rattle.int_ops.specs.declared.types.Mode.{Mode}

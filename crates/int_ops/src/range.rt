@@ -7,7 +7,7 @@ ghost use Rattle.int_ops.specs.Exact.{StandsFor};
 use crate::exact::Exact;
 use crate::types::{IntOut, IntType, Mode};
 
-fn power_of_two(exponent: u32) -> i128
+pub(crate) fn power_of_two(exponent: u32) -> i128
     requires { exponent < 127 }
     ensures { result ≡ pos (2 ^ exponent) }
 {

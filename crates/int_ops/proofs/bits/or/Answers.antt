@@ -1,4 +1,4 @@
-use Rattle.std.proofs.Common.{sym, bit_and, bit_or, of_z, arith}
+use Rattle.std.proofs.Common.{sym, of_z, arith}
 use Rattle.std.proofs.lemmas.Int.{ints}
 use Rattle.std.proofs.lemmas.Nat.{or_lt}
 use Rattle.std.specs.Int.{w128}

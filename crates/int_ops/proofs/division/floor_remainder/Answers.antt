@@ -1,7 +1,7 @@
-use Rattle.std.proofs.Common.{pos, sym, ◌≡◌, ◌∙◌, ◌+ℤ◌, FitsSigned, int_rem, true, false}
+use Rattle.std.proofs.Common.{sym, ◌≡◌, ◌∙◌, FitsSigned, int_rem, true, false}
 use Rattle.std.proofs.lemmas.Int.{to_z-of_z}
 use Rattle.std.specs.Int.{w128}
-use Rattle.int_ops.specs.Division.{int_modulo, has_other_sign}
+use Rattle.int_ops.specs.Division.{has_other_sign}
 use Rattle.int_ops.proofs.Rounding.{modulo_other, modulo_same, modulo_fits}
 use Rattle.int_ops.proofs.division.floor_remainder.Goals as goal
 

@@ -1,9 +1,7 @@
-use Rattle.std.proofs.Common.{subst, ℤ, ◌≡◌, ◌∙◌, ap, sym, FitsSigned}
+use Rattle.std.proofs.Common.{◌∙◌, FitsSigned}
 use Rattle.std.proofs.lemmas.Int.{to_z-of_z, SFits-int_wrap}
 use Rattle.std.specs.Int.{w128}
 use Rattle.int_ops.specs.Exact.{StandsFor}
-use Rattle.int_ops.specs.IntOut.{beyond}
-use Rattle.int_ops.specs.declared.exact.Exact.{Exact}
 use Rattle.int_ops.specs.declared.exact.Exact.TheVariants.{Above, Below}
 use Rattle.int_ops.proofs.Ranges.{outcome_above, outcome_below}
 use Rattle.int_ops.proofs.range.answer.Goals as goal

@@ -1,4 +1,4 @@
-use Rattle.std.proofs.Common.{◌<◌, ◌^◌, ◌≡◌, ◌*◌, ◌%◌, arith, ◌∙◌, ap, pos, to_z}
+use Rattle.std.proofs.Common.{◌^◌, arith, ◌∙◌, ap, to_z}
 use Rattle.std.proofs.lemmas.Int.{to_z_pos}
 use Rattle.std.proofs.lemmas.Nat.{one_shl, pow_below}
 use Rattle.std.specs.Int.{w128}

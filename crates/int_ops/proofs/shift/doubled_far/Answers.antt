@@ -1,4 +1,4 @@
-use Rattle.std.proofs.Common.{pos, negsuc, ap, of_z, ◌≡◌, ◌≢◌}
+use Rattle.std.proofs.Common.{ap, of_z}
 use Rattle.std.specs.Int.{w128}
 use Rattle.int_ops.proofs.Shifts.{far_overflows}
 use Rattle.int_ops.proofs.shift.doubled_far.Goals as goal

@@ -1,7 +1,5 @@
-use Rattle.std.proofs.Common.{arith, pos, negsuc, sym, ◌^◌, ◌<◌, ◌≤◌, ℤ, ℕ, ◌≡◌, FitsSigned, unsigned_abs, ◌<ℤ◌, ◌≤ℤ◌}
+use Rattle.std.proofs.Common.{arith, sym, unsigned_abs}
 use Rattle.std.proofs.lemmas.Int.{ints}
-use Rattle.std.specs.Int.{w128}
-use Rattle.int_ops.specs.Division.{floor_by}
 use Rattle.int_ops.proofs.Rounding.{halved_far, halved_far_below}
 use Rattle.int_ops.proofs.shift.halved.Goals as goal
 
