@@ -29,18 +29,18 @@ data Place (z : ℤ) (t : IntType) (mode : Mode) : Type 0 where
 place : (z : ℤ) (t : IntType) (mode : Mode) → Place z t mode
 place z t mode =
     by_lt_z z (lowest_of t)
-      (λ below. let low : int_lt z (lowest_of t) ≡ true = grind (arith, ints) in Low below (rw low refl))
-      (λ above. let low : int_lt z (lowest_of t) ≡ false = grind (arith, ints) in
-        by_lt_z (highest_of t) z
-          (λ over. let high : int_lt (highest_of t) z ≡ true = grind (arith, ints) in High over (rw (low, high) refl))
-          (λ under. let high : int_lt (highest_of t) z ≡ false = grind (arith, ints) in Within above under (rw (low, high) refl)))
+    (λ below. let low : int_lt z (lowest_of t) ≡ true = grind (arith, ints) in Low below (rw low refl))
+    (λ above. let low : int_lt z (lowest_of t) ≡ false = grind (arith, ints) in
+    by_lt_z (highest_of t) z
+    (λ over. let high : int_lt (highest_of t) z ≡ true = grind (arith, ints) in High over (rw (low, high) refl))
+    (λ under. let high : int_lt (highest_of t) z ≡ false = grind (arith, ints) in Within above under (rw (low, high) refl)))
 
 pub overflow_cause : (r : IntOut) (z : ℤ) (t : IntType) (mode : Mode) → r ≡ outcome z t mode → (r ≡ Overflow) ↔ Overflows z t mode
 overflow_cause r z t mode is = elim (place z t mode) [
-    Low below e ↦ (λ o. (inl below, (beyond_strict z (lowest_of t) t mode).0 (cc)), λ o. is ∙ e ∙ (beyond_strict z (lowest_of t) t mode).1 o.1)
+  | Low below e ↦ (λ o. (inl below, (beyond_strict z (lowest_of t) t mode).0 (cc)), λ o. is ∙ e ∙ (beyond_strict z (lowest_of t) t mode).1 o.1)
   | High over e ↦ (λ o. (inr over, (beyond_strict z (highest_of t) t mode).0 (cc)), λ o. is ∙ e ∙ (beyond_strict z (highest_of t) t mode).1 o.1)
   | Within above under e ↦ (λ o. absurd (cc), λ o. absurd (elim o.0 [ inl below ↦ omega (arith, ints) | inr over ↦ omega (arith, ints) ]))
-  ]
+]
 
 -- an exact result is refused by Overflow alone
 data Kind (out : IntOut) : Type 0 where
@@ -62,10 +62,10 @@ kind_along a b e (Given value is) = Given value (e ∙ is)
 
 kind : (z : ℤ) (t : IntType) (mode : Mode) → Kind (outcome z t mode)
 kind z t mode = elim (place z t mode) [
-    Low below e ↦ kind_along _ _ e (kind_beyond z (lowest_of t) t mode)
+  | Low below e ↦ kind_along _ _ e (kind_beyond z (lowest_of t) t mode)
   | High over e ↦ kind_along _ _ e (kind_beyond z (highest_of t) t mode)
   | Within above under e ↦ Given z e
-  ]
+]
 
 outcome_not_zero_fault : (z : ℤ) (t : IntType) (mode : Mode) → outcome z t mode ≢ DivByZero
 outcome_not_zero_fault z t mode o = elim (kind z t mode) [ Refused is ↦ cc | Given value is ↦ cc ]
@@ -106,19 +106,21 @@ choose false = inr refl
 
 shift_fault : (b z : ℤ) (t : IntType) (mode : Mode) → (unless_bad_shift b t (outcome z t mode) ≡ BadShift) ↔ IsBadShift b t
 shift_fault b z t mode = elim (choose (is_bad_shift b t)) [
-    inl bad ↦ (λ _. (bad_shift_is b t).0 bad, λ _. rw bad refl)
-  | inr good ↦
-      (λ e. absurd (outcome_not_bad_shift z t mode (rw good at e)),
-       λ bad. absurd (let bad_test : is_bad_shift b t ≡ true = (bad_shift_is b t).1 bad in cc))
-  ]
+  | inl bad ↦ (λ _. (bad_shift_is b t).0 bad, λ _. rw bad refl)
+  | inr good ↦ (
+    λ e. absurd (outcome_not_bad_shift z t mode (rw good at e)),
+    λ bad. absurd (let bad_test : is_bad_shift b t ≡ true = (bad_shift_is b t).1 bad in cc),
+  )
+]
 
 shift_overflow : (b z : ℤ) (t : IntType) (mode : Mode) → (unless_bad_shift b t (outcome z t mode) ≡ Overflow) ↔ ((¬ IsBadShift b t) × Overflows z t mode)
 shift_overflow b z t mode = elim (choose (is_bad_shift b t)) [
-    inl bad ↦ (λ e. absurd (let no_answer : BadShift ≡ Overflow = rw bad at e in cc), λ o. absurd (o.0 ((bad_shift_is b t).0 bad)))
-  | inr good ↦
-      (λ e. (λ bad. (let bad_test : is_bad_shift b t ≡ true = (bad_shift_is b t).1 bad in cc), (overflow_cause _ z t mode refl).0 (rw good at e)),
-       λ o. rw good ((overflow_cause _ z t mode refl).1 o.1))
-  ]
+  | inl bad ↦ (λ e. absurd (let no_answer : BadShift ≡ Overflow = rw bad at e in cc), λ o. absurd (o.0 ((bad_shift_is b t).0 bad)))
+  | inr good ↦ (
+    λ e. (λ bad. (let bad_test : is_bad_shift b t ≡ true = (bad_shift_is b t).1 bad in cc), (overflow_cause _ z t mode refl).0 (rw good at e)),
+    λ o. rw good ((overflow_cause _ z t mode refl).1 o.1),
+  )
+]
 
 -- ---- the same of an answer
 

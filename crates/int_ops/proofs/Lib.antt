@@ -4,3 +4,5 @@ pub mod Rounding
 pub mod BitsOf
 pub mod Shifts
 pub mod Causes
+pub mod Laws
+pub mod InRange

@@ -48,22 +48,22 @@ high_part n m e fits high =
     rw (e, negative) (omega (arith, ints))
 
 -- the signed number with this residue modulo 2 ^ 128 has its residue modulo 2 ^ k
-mod-signed : (n k : ℕ) → k ≤ 128 → n < 2 ^ 128 → int_rem_euclid (to_z w128 n) (pos (2 ^ k)) ≡ pos (n % 2 ^ k)
+pub mod-signed : (n k : ℕ) → k ≤ 128 → n < 2 ^ 128 → int_rem_euclid (to_z w128 n) (pos (2 ^ k)) ≡ pos (n % 2 ^ k)
 mod-signed n k within fits =
     let powers : 2 ^ (128 - k) * 2 ^ k ≡ 2 ^ 128 = two_powers k within in
     elim (cases_lt n (2 ^ 127)) [
-      inl low ↦ ap (λ z. int_rem_euclid z (pos (2 ^ k))) (to_z_pos w128 n low)
-    | inr high ↦ int_rem_euclid_is (to_z w128 n) (pos (2 ^ k)) (2 ^ k) (2 ^ (128 - k)) n (pow_pos k) refl (high_part n ((2 ^ (128 - k)) * 2 ^ k) powers fits high)
+      | inl low ↦ ap (λ z. int_rem_euclid z (pos (2 ^ k))) (to_z_pos w128 n low)
+      | inr high ↦ int_rem_euclid_is (to_z w128 n) (pos (2 ^ k)) (2 ^ k) (2 ^ (128 - k)) n (pow_pos k) refl (high_part n ((2 ^ (128 - k)) * 2 ^ k) powers fits high)
     ]
+
+pub residue_below : (z : ℤ) → residue z 128 < 2 ^ 128
+residue_below (pos a) = mod_below a (2 ^ 128) (pow_pos 128)
+residue_below (negsuc a) = omega arith
 
 pub residue-int_wrap : (z : ℤ) (k : ℕ) → k ≤ 128 → residue (int_wrap w128 z) k ≡ residue z k
 unfolding int_wrap
 residue-int_wrap z k within =
     ap unsigned_abs (mod-signed (residue z 128) k within (residue_below z) ∙ sym (mod-residue z k within))
-  where
-    residue_below : (z : ℤ) → residue z 128 < 2 ^ 128
-    residue_below (pos a) = mod_below a (2 ^ 128) (pow_pos 128)
-    residue_below (negsuc a) = omega arith
 
 pub beyond-int_wrap : (z bound : ℤ) (t : IntType) (mode : Mode) → beyond (int_wrap w128 z) bound t mode ≡ beyond z bound t mode
 beyond-int_wrap z bound (Signed width) Checked = refl

@@ -22,16 +22,16 @@ next a n positive =
     let below : a % n < n = mod_below a n positive in
     let split : suc a ≡ a / n * n + suc (a % n) = omega (arith, div-add-mod' a n) in
     elim (cases_lt (suc (a % n)) n) [
-      inl small ↦ Same
-        (ap (λ m. m / n) split ∙ div-mul-add (a / n) n (suc (a % n)) small)
-        (ap (λ m. m % n) split ∙ mod-mul-add (a / n) n (suc (a % n)) small)
-        small
-    | inr large ↦
-        let full : suc a ≡ (a / n + 1) * n + 0 = omega (arith, div-add-mod' a n) in
-        Risen
-        (ap (λ m. m / n) full ∙ div-mul-add (a / n + 1) n 0 positive ∙ omega arith)
-        (ap (λ m. m % n) full ∙ mod-mul-add (a / n + 1) n 0 positive)
-        (omega arith)
+      | inl small ↦ Same
+          (ap (λ m. m / n) split ∙ div-mul-add (a / n) n (suc (a % n)) small)
+          (ap (λ m. m % n) split ∙ mod-mul-add (a / n) n (suc (a % n)) small)
+          small
+      | inr large ↦
+          let full : suc a ≡ (a / n + 1) * n + 0 = omega (arith, div-add-mod' a n) in
+          Risen
+          (ap (λ m. m / n) full ∙ div-mul-add (a / n + 1) n 0 positive ∙ omega arith)
+          (ap (λ m. m % n) full ∙ mod-mul-add (a / n + 1) n 0 positive)
+          (omega arith)
     ]
 
 zero_if_same : (r n : ℕ) → has_other_sign (pos r) (negsuc n) ≡ false → r ≡ 0
@@ -63,14 +63,14 @@ pub floor_same : (a b : ℤ) → b ≢ pos 0 → has_other_sign (int_rem a b) b 
 floor_same (pos a) (pos b) nonzero e = refl
 floor_same (pos zero) (negsuc b) nonzero e = rw zero-div refl
 floor_same (pos (suc a)) (negsuc b) nonzero e = elim (next a (suc b) (omega arith)) [
-    Same quotient rest below ↦ absurd (let none : suc a % suc b ≡ 0 = zero_if_same (suc a % suc b) b e in omega arith)
+  | Same quotient rest below ↦ absurd (let none : suc a % suc b ≡ 0 = zero_if_same (suc a % suc b) b e in omega arith)
   | Risen quotient rest full ↦ rw quotient refl
-  ]
+]
 floor_same (negsuc a) (pos zero) nonzero e = absurd (nonzero refl)
 floor_same (negsuc a) (pos (suc b)) nonzero e = elim (next a (suc b) (omega arith)) [
-    Same quotient rest below ↦ absurd (let none : suc a % suc b ≡ 0 = neg_zero_if_same (suc a % suc b) (suc b) e in omega arith)
+  | Same quotient rest below ↦ absurd (let none : suc a % suc b ≡ 0 = neg_zero_if_same (suc a % suc b) (suc b) e in omega arith)
   | Risen quotient rest full ↦ rw quotient refl
-  ]
+]
 floor_same (negsuc a) (negsuc b) nonzero e = refl
 
 -- with a remainder of the other sign, the quotient toward zero is one above
@@ -78,14 +78,14 @@ pub floor_other : (a b : ℤ) → b ≢ pos 0 → has_other_sign (int_rem a b) b
 floor_other (pos a) (pos b) nonzero e = let same : has_other_sign (pos (a % b)) (pos b) ≡ false = never_other (a % b) b in cc
 floor_other (pos zero) (negsuc b) nonzero e = absurd (let some : 0 < 0 % suc b = above_if_other (0 % suc b) b e in omega (arith, zero-mod (suc b)))
 floor_other (pos (suc a)) (negsuc b) nonzero e = elim (next a (suc b) (omega arith)) [
-    Same quotient rest below ↦ rw quotient (omega (arith, ints))
+  | Same quotient rest below ↦ rw quotient (omega (arith, ints))
   | Risen quotient rest full ↦ absurd (let some : 0 < suc a % suc b = above_if_other (suc a % suc b) b e in omega arith)
-  ]
+]
 floor_other (negsuc a) (pos zero) nonzero e = absurd (nonzero refl)
 floor_other (negsuc a) (pos (suc b)) nonzero e = elim (next a (suc b) (omega arith)) [
-    Same quotient rest below ↦ rw quotient (omega (arith, ints))
+  | Same quotient rest below ↦ rw quotient (omega (arith, ints))
   | Risen quotient rest full ↦ absurd (let some : 0 < suc a % suc b = neg_above_if_other (suc a % suc b) (suc b) e in omega arith)
-  ]
+]
 floor_other (negsuc a) (negsuc b) nonzero e = let same : has_other_sign (neg_ℤ (pos (suc a % suc b))) (negsuc b) ≡ false = neg_never_other (suc a % suc b) b in cc
 
 -- the same two for the remainders
@@ -95,16 +95,16 @@ modulo_same (pos zero) (negsuc b) nonzero e = rw zero-mod refl
 modulo_same (pos (suc a)) (negsuc b) nonzero e =
     let none : suc a % suc b ≡ 0 = zero_if_same (suc a % suc b) b e in
     elim (next a (suc b) (omega arith)) [
-    Same quotient rest below ↦ absurd (omega arith)
-  | Risen quotient rest full ↦ omega (arith, ints)
-  ]
+      | Same quotient rest below ↦ absurd (omega arith)
+      | Risen quotient rest full ↦ omega (arith, ints)
+    ]
 modulo_same (negsuc a) (pos zero) nonzero e = absurd (nonzero refl)
 modulo_same (negsuc a) (pos (suc b)) nonzero e =
     let none : suc a % suc b ≡ 0 = neg_zero_if_same (suc a % suc b) (suc b) e in
     elim (next a (suc b) (omega arith)) [
-    Same quotient rest below ↦ absurd (omega arith)
-  | Risen quotient rest full ↦ omega (arith, ints)
-  ]
+      | Same quotient rest below ↦ absurd (omega arith)
+      | Risen quotient rest full ↦ omega (arith, ints)
+    ]
 modulo_same (negsuc a) (negsuc b) nonzero e = refl
 
 pub modulo_other : (a b : ℤ) → b ≢ pos 0 → has_other_sign (int_rem a b) b ≡ true → int_rem a b +ℤ b ≡ int_modulo a b
@@ -113,16 +113,16 @@ modulo_other (pos zero) (negsuc b) nonzero e = absurd (let some : 0 < 0 % suc b 
 modulo_other (pos (suc a)) (negsuc b) nonzero e =
     let some : 0 < suc a % suc b = above_if_other (suc a % suc b) b e in
     elim (next a (suc b) (omega arith)) [
-    Same quotient rest below ↦ omega (arith, ints)
-  | Risen quotient rest full ↦ absurd (omega arith)
-  ]
+      | Same quotient rest below ↦ omega (arith, ints)
+      | Risen quotient rest full ↦ absurd (omega arith)
+    ]
 modulo_other (negsuc a) (pos zero) nonzero e = absurd (nonzero refl)
 modulo_other (negsuc a) (pos (suc b)) nonzero e =
     let some : 0 < suc a % suc b = neg_above_if_other (suc a % suc b) (suc b) e in
     elim (next a (suc b) (omega arith)) [
-    Same quotient rest below ↦ omega (arith, ints)
-  | Risen quotient rest full ↦ absurd (omega arith)
-  ]
+      | Same quotient rest below ↦ omega (arith, ints)
+      | Risen quotient rest full ↦ absurd (omega arith)
+    ]
 modulo_other (negsuc a) (negsuc b) nonzero e = let same : has_other_sign (neg_ℤ (pos (suc a % suc b))) (negsuc b) ≡ false = neg_never_other (suc a % suc b) b in cc
 
 -- ---- halving many times

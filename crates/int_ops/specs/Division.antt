@@ -1,5 +1,5 @@
 -- Division that rounds down. Division toward zero is `int_div` of std, and its remainder, which has the numerator's sign, `int_rem`.
-use Rattle.std.specs.Prelude.{ℕ, zero, suc, ℤ, pos, negsuc, neg_ℤ, ◌/◌, Bool, true, false}
+use Rattle.std.specs.Prelude.{ℕ, zero, suc, ℤ, pos, negsuc, neg_ℤ, ◌/◌, ◌≤ℤ◌, Bool, true, false}
 use Rattle.std.specs.Int.{int_rem_euclid}
 
 -- the greatest integer that is not above a / n
@@ -24,3 +24,8 @@ has_other_sign (pos (suc r)) (pos n) = false
 has_other_sign (pos (suc r)) (negsuc n) = true
 has_other_sign (negsuc r) (pos n) = true
 has_other_sign (negsuc r) (negsuc n) = false
+
+-- the remainder r is 0 or has the sign of z
+abbrev pub HasSignOf : ℤ → ℤ → Type 0
+HasSignOf (pos n) r = pos 0 ≤ℤ r
+HasSignOf (negsuc n) r = r ≤ℤ pos 0

@@ -47,3 +47,10 @@ IsBadShift amount Comptime = amount <ℤ pos 0
 -- the answer of a shift by this amount that has this answer where the amount is good
 abbrev pub unless_bad_shift : ℤ → IntType → IntOut → IntOut
 unless_bad_shift amount t out = if is_bad_shift amount t then BadShift else out
+
+-- a value that is answered is a value of the type
+abbrev pub IsAnswerIn : IntType → IntOut → Type 0
+IsAnswerIn t (Value value) = (lowest_of t ≤ℤ value) × (value ≤ℤ highest_of t)
+IsAnswerIn t Overflow = Unit {0}
+IsAnswerIn t DivByZero = Unit {0}
+IsAnswerIn t BadShift = Unit {0}

@@ -1,7 +1,7 @@
 // Quotients and remainders. The least number over -1 is the one quotient beyond 128 bits.
-ghost use Rattle.std.specs.Prelude.{◌≡◌, ◌≢◌, pos, int_div, int_rem};
+ghost use Rattle.std.specs.Prelude.{◌≡◌, ◌≢◌, ◌<◌, ◌+ℤ◌, ◌*ℤ◌, pos, unsigned_abs, int_div, int_rem};
 ghost use Rattle.int_ops.specs.Exact.{StandsFor};
-ghost use Rattle.int_ops.specs.Division.{int_floor_div, int_modulo, has_other_sign};
+ghost use Rattle.int_ops.specs.Division.{int_floor_div, int_modulo, has_other_sign, HasSignOf};
 
 use crate::exact::{Exact, exact_difference};
 
@@ -20,7 +20,10 @@ pub(crate) fn exact_quotient(a: i128, b: i128) -> Exact
 /// What the quotient rounded toward zero leaves, with the numerator's sign.
 pub(crate) fn remainder(a: i128, b: i128) -> i128
     requires { b ≢ pos 0 }
-    ensures { result ≡ int_rem a b }
+    ensures value { result ≡ int_rem a b }
+    ensures split { int_div a b *ℤ b +ℤ result ≡ a }
+    ensures small { unsigned_abs result < unsigned_abs b }
+    ensures sign { HasSignOf a result }
 {
     a.wrapping_rem(b)
 }
@@ -52,7 +55,10 @@ pub(crate) fn exact_floor(a: i128, b: i128) -> Exact
 /// What the quotient rounded down leaves, with the denominator's sign.
 pub(crate) fn floor_remainder(a: i128, b: i128) -> i128
     requires { b ≢ pos 0 }
-    ensures { result ≡ int_modulo a b }
+    ensures value { result ≡ int_modulo a b }
+    ensures split { int_floor_div a b *ℤ b +ℤ result ≡ a }
+    ensures small { unsigned_abs result < unsigned_abs b }
+    ensures sign { HasSignOf b result }
 {
     let remainder = a.wrapping_rem(b);
     if has_other_sign(remainder, b) {

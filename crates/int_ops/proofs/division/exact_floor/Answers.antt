@@ -9,7 +9,7 @@ pub returns-then-has_other_sign : goal.returns-then-has_other_sign
 returns-then-has_other_sign c =
     let other : c.args.b ≢ negsuc 0 = λ e. c.if-b-eqminus1.false (ap (of_z w128) e) in
     let turned : has_other_sign (int_rem c.args.a c.args.b) c.args.b ≡ true =
-        sym (rw (rem_is w128 c.args.a c.args.b c.ranges.a c.ranges.b, to_z-of_z w128 c.args.b c.ranges.b) at c.has_other_sign.ensures) ∙ c.if-has_other_sign.true in
+    sym (rw (rem_is w128 c.args.a c.args.b c.ranges.a c.ranges.b, to_z-of_z w128 c.args.b c.ranges.b) at c.has_other_sign.ensures) ∙ c.if-has_other_sign.true in
     let quotient = quot_is w128 c.args.a c.args.b c.ranges.a c.ranges.b (quotient_fits c.args.a c.args.b c.ranges.a other) in
     let down : int_div c.args.a c.args.b -ℤ pos 1 ≡ int_floor_div c.args.a c.args.b = floor_other c.args.a c.args.b c.requires turned in
     rw (quotient, down) (to_z-of_z w128 _ (floor_fits c.args.a c.args.b c.ranges.a other))
@@ -18,6 +18,6 @@ pub returns-else-has_other_sign : goal.returns-else-has_other_sign
 returns-else-has_other_sign c =
     let other : c.args.b ≢ negsuc 0 = λ e. c.if-b-eqminus1.false (ap (of_z w128) e) in
     let same : has_other_sign (int_rem c.args.a c.args.b) c.args.b ≡ false =
-        sym (rw (rem_is w128 c.args.a c.args.b c.ranges.a c.ranges.b, to_z-of_z w128 c.args.b c.ranges.b) at c.has_other_sign.ensures) ∙ c.if-has_other_sign.false in
+    sym (rw (rem_is w128 c.args.a c.args.b c.ranges.a c.ranges.b, to_z-of_z w128 c.args.b c.ranges.b) at c.has_other_sign.ensures) ∙ c.if-has_other_sign.false in
     let quotient = quot_is w128 c.args.a c.args.b c.ranges.a c.ranges.b (quotient_fits c.args.a c.args.b c.ranges.a other) in
     quotient ∙ floor_same c.args.a c.args.b c.requires same
