@@ -27,6 +27,7 @@ data Place (z : ℤ) (t : IntType) (mode : Mode) : Type 0 where
   Within : lowest_of t ≤ℤ z → z ≤ℤ highest_of t → outcome z t mode ≡ Value z → Place z t mode
 
 place : (z : ℤ) (t : IntType) (mode : Mode) → Place z t mode
+unfolding outcome
 place z t mode =
     by_lt_z z (lowest_of t)
     (λ below. let low : int_lt z (lowest_of t) ≡ true = grind (arith, ints) in Low below (rw low refl))

@@ -48,6 +48,7 @@ beyond_high_in z (Unsigned width) Saturate = (lowest-highest (Unsigned width), o
 beyond_high_in z Comptime mode = tt
 
 outcome_in : (z : ℤ) (t : IntType) (mode : Mode) → IsAnswerIn t (outcome z t mode)
+unfolding outcome
 outcome_in z t mode =
     by_lt_z z (lowest_of t)
     (λ below. let low : int_lt z (lowest_of t) ≡ true = grind (arith, ints) in rw low (beyond_low_in z t mode))

@@ -77,12 +77,14 @@ beyond-int_wrap z bound Comptime mode = refl
 -- ---- answers for a result beyond 128 bits
 
 pub outcome_above : (z left : ℤ) (t : IntType) (mode : Mode) → pos (2 ^ 127) ≤ℤ z → left ≡ int_wrap w128 z → beyond left (highest_of t) t mode ≡ outcome z t mode
+unfolding outcome
 outcome_above z left t mode above e =
     let low : int_lt z (lowest_of t) ≡ false = grind (arith, ints, lowest-bounds t) in
     let high : int_lt (highest_of t) z ≡ true = grind (arith, ints, highest-bounds t) in
     rw (e, beyond-int_wrap z (highest_of t) t mode, low, high) refl
 
 pub outcome_below : (z left : ℤ) (t : IntType) (mode : Mode) → z <ℤ neg_ℤ (pos (2 ^ 127)) → left ≡ int_wrap w128 z → beyond left (lowest_of t) t mode ≡ outcome z t mode
+unfolding outcome
 outcome_below z left t mode below e =
     let low : int_lt z (lowest_of t) ≡ true = grind (arith, ints, lowest-bounds t) in
     rw (e, beyond-int_wrap z (lowest_of t) t mode, low) refl

@@ -19,7 +19,7 @@ beyond z bound (Unsigned width) Wrap = Value (wrapped (Unsigned width) z)
 beyond z bound (Unsigned width) Saturate = Value bound
 
 -- the answer where the exact result is z
-abbrev pub outcome : ℤ → IntType → Mode → IntOut
+unfoldable pub outcome : ℤ → IntType → Mode → IntOut
 outcome z t mode =
     if int_lt z (lowest_of t) then beyond z (lowest_of t) t mode
     else (if int_lt (highest_of t) z then beyond z (highest_of t) t mode else Value z)

@@ -64,6 +64,7 @@ fn answer_beyond(left: i128, bound: i128, t: IntType, mode: Mode) -> IntOut
 }
 
 /// The answer of an operation with this exact result.
+#[tactic(auto, unfolding(crate::specs::IntOut::outcome))]
 pub(crate) fn answer(exact: Exact, t: IntType, mode: Mode) -> IntOut
     ensures { (z : ℤ) → StandsFor exact z → result ≡ outcome z t mode }
 {

@@ -33,6 +33,7 @@ pub(crate) fn halved(a: i128, amount: i128) -> i128
 }
 
 /// The answer for a * 2^amount at the comptime type, where 2^amount is beyond 128 bits.
+#[tactic(auto, unfolding(crate::specs::IntOut::outcome))]
 pub(crate) fn doubled_far(a: i128, amount: i128) -> IntOut
     requires { pos 127 ≤ℤ amount }
     ensures { (mode : Mode) → result ≡ outcome (a *ℤ pos (2 ^ unsigned_abs amount)) IntType.Comptime mode }
