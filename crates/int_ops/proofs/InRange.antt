@@ -1,16 +1,17 @@
 -- A value that is answered is a value of the type.
-use Rattle.std.proofs.Common.{ℕ, zero, suc, ℤ, pos, negsuc, neg_ℤ, ◌^◌, ◌*◌, ◌+◌, ◌-◌, ◌≤ℤ◌, ◌<◌, ◌≤◌, inl, inr, arith, ◌≡◌, ap, ◌∙◌, Bool, true, false}
-use Rattle.std.proofs.lemmas.Int.{ints, by_lt_z}
+use Rattle.std.proofs.Common.{ℕ, zero, suc, ℤ, pos, negsuc, neg_ℤ, ◌^◌, ◌*◌, ◌+◌, ◌-◌, ◌≤ℤ◌, ◌<◌, ◌≤◌, inl, inr, arith, ◌≡◌, ap, ◌∙◌, Bool, true, false, refl}
+use Rattle.std.proofs.lemmas.Int.{ints, by_lt_z, int_rem_euclid_is}
 use Rattle.std.proofs.lemmas.Nat.{pow_pos, pow-add, mod_below}
 use Rattle.std.proofs.lemmas.Bool.{cases_lt}
-use Rattle.std.specs.Prelude.{int_lt, nat_lt, if◌then◌else◌}
+use Rattle.std.proofs.Math.Nat.{mod-eq_of_lt}
+use Rattle.std.specs.Prelude.{unsigned_abs, ◌-ℤ◌, int_lt, nat_lt, if◌then◌else◌}
 use Rattle.int_ops.specs.declared.types.IntType.{IntType}
 use Rattle.int_ops.specs.declared.types.IntType.TheVariants.{Signed, Unsigned, Comptime}
 use Rattle.int_ops.specs.declared.types.Mode.{Mode}
 use Rattle.int_ops.specs.declared.types.Mode.TheVariants.{Checked, Wrap, Saturate}
 use Rattle.int_ops.specs.declared.types.IntOut.{IntOut}
 use Rattle.int_ops.specs.declared.types.IntOut.TheVariants.{BadShift}
-use Rattle.int_ops.specs.IntType.{lowest_of, highest_of, residue, signed_of}
+use Rattle.int_ops.specs.IntType.{lowest_of, highest_of, residue, signed_of, wrapped, HasSameResidue}
 use Rattle.int_ops.specs.IntOut.{beyond, outcome, unless_zero, unless_bad_shift, is_bad_shift, IsAnswerIn}
 use Rattle.int_ops.proofs.Ranges.{lowest-bounds, highest-bounds}
 
@@ -71,3 +72,23 @@ shift_in' false out t within = within
 
 pub shift_in : (r : IntOut) (b z : ℤ) (t : IntType) (mode : Mode) → r ≡ unless_bad_shift b t (outcome z t mode) → IsAnswerIn t r
 shift_in r b z t mode is = rw is (shift_in' (is_bad_shift b t) (outcome z t mode) t (outcome_in z t mode))
+
+-- ---- what is wrapped keeps its residue
+
+residue-pos : (n k : ℕ) → n < 2 ^ k → residue (pos n) k ≡ n
+residue-pos n k below = mod-eq_of_lt below
+
+residue-signed_of : (n k : ℕ) → n < 2 ^ k → residue (signed_of n k) k ≡ n
+residue-signed_of n k below = elim (cases_lt n (2 ^ (k - 1))) [
+  | inl low ↦ let test : nat_lt n (2 ^ (k - 1)) ≡ true = grind arith in rw test (residue-pos n k below)
+  | inr high ↦ let test : nat_lt n (2 ^ (k - 1)) ≡ false = grind arith in
+      rw test (ap unsigned_abs (int_rem_euclid_is (pos n -ℤ pos (2 ^ k)) (pos (2 ^ k)) (2 ^ k) 1 n (pow_pos k) refl (omega (arith, ints))) ∙ mod-eq_of_lt below)
+]
+
+pub residue-wrapped : (t : IntType) (z : ℤ) → HasSameResidue t (wrapped t z) z
+residue-wrapped (Signed width) z = residue-signed_of (residue z width.bits) width.bits (below_power z width.bits)
+residue-wrapped (Unsigned width) z = residue-pos (residue z width.bits) width.bits (below_power z width.bits)
+residue-wrapped Comptime z = refl
+
+pub residue_along : (t : IntType) (x z : ℤ) → x ≡ wrapped t z → HasSameResidue t x z
+residue_along t x z is = rw is (residue-wrapped t z)

@@ -1,5 +1,5 @@
 -- The values of a type of integers, and what wraps into them.
-use Rattle.std.specs.Prelude.{ℕ, ℤ, pos, neg_ℤ, unsigned_abs, nat_lt, ◌-◌, ◌^◌, ◌-ℤ◌, ◌<ℤ◌, ◌⊎◌, if◌then◌else◌}
+use Rattle.std.specs.Prelude.{◌≡◌, ℕ, ℤ, pos, neg_ℤ, unsigned_abs, nat_lt, ◌-◌, ◌^◌, ◌-ℤ◌, ◌<ℤ◌, ◌⊎◌, if◌then◌else◌}
 use Rattle.std.specs.Int.{int_rem_euclid}
 use Rattle.int_ops.specs.declared.types.IntType.{IntType}
 use Rattle.int_ops.specs.declared.types.IntType.TheVariants.{Signed, Unsigned, Comptime}
@@ -33,3 +33,9 @@ abbrev pub wrapped : IntType → ℤ → ℤ
 wrapped (Signed width) z = signed_of (residue z width.bits) width.bits
 wrapped (Unsigned width) z = pos (residue z width.bits)
 wrapped Comptime z = z
+
+-- x and z have one residue modulo 2 ^ width
+abbrev pub HasSameResidue : IntType → ℤ → ℤ → Type 0
+HasSameResidue (Signed width) x z = residue x width.bits ≡ residue z width.bits
+HasSameResidue (Unsigned width) x z = residue x width.bits ≡ residue z width.bits
+HasSameResidue Comptime x z = x ≡ z

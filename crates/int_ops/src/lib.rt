@@ -121,8 +121,9 @@ pub fn shl(a: i128, b: i128, t: IntType, mode: Mode) -> IntOut
     ensures overflow { (result ≡ IntOut.Overflow) ↔ ((¬ IsBadShift b t) × Overflows (a *ℤ pos (2 ^ unsigned_abs b)) t mode) }
 {
     if is_bad_shift(b, t) {
-        IntOut::BadShift
-    } else if b < 127 {
+        return IntOut::BadShift;
+    }
+    if b < 127 {
         answer(exact_product(a, power_of_two(b as u32)), t, mode)
     } else {
         doubled_far(a, b)

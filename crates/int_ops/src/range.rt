@@ -1,6 +1,6 @@
 // The range of a type, and the answer for an exact result within or beyond it.
 ghost use Rattle.std.specs.Prelude.{◌≡◌, ◌<◌, ◌^◌, ℤ, pos};
-ghost use Rattle.int_ops.specs.IntType.{lowest_of, highest_of, wrapped};
+ghost use Rattle.int_ops.specs.IntType.{lowest_of, highest_of, wrapped, HasSameResidue};
 ghost use Rattle.int_ops.specs.IntOut.{beyond, outcome};
 ghost use Rattle.int_ops.specs.Exact.{StandsFor};
 
@@ -35,7 +35,8 @@ fn highest(t: IntType) -> i128
 }
 
 fn wrapped_into(t: IntType, left: i128) -> i128
-    ensures { result ≡ wrapped t left }
+    ensures value { result ≡ wrapped t left }
+    ensures same_residue { HasSameResidue t result left }
 {
     match t {
         IntType::Signed(width) => {
