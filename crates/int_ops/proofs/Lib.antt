@@ -1,8 +1,8 @@
 pub mod Beyond
 pub mod Ranges
-pub mod Rounding
-pub mod BitsOf
-pub mod Shifts
-pub mod Causes
-pub mod Laws
 pub mod InRange
+pub mod Rounding
+pub mod Shifts
+pub mod BitsOf
+pub mod Laws
+pub mod Causes

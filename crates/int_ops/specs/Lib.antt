@@ -1,5 +1,5 @@
+pub mod IntType
 pub mod Division
 pub mod Bits
-pub mod IntType
-pub mod IntOut
 pub mod Exact
+pub mod IntOut

@@ -113,7 +113,7 @@ pub fn modulo(a: i128, b: i128, t: IntType, mode: Mode) -> IntOut
     }
 }
 
-/// a * 2^b.
+/// a * 2^b. An amount that is not below the width is BadShift, also where the result would overflow.
 pub fn shl(a: i128, b: i128, t: IntType, mode: Mode) -> IntOut
     ensures exact { result ≡ unless_bad_shift b t (outcome (a *ℤ pos (2 ^ unsigned_abs b)) t mode) }
     ensures in_range { IsAnswerIn t result }

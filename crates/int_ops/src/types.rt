@@ -26,6 +26,7 @@ pub enum Mode {
 /// The answer of an operation.
 #[derive(Clone, Copy, PartialEq, Eq, Debug)]
 pub enum IntOut {
+    /// The exact result, or what the mode makes of it. It is a value of the type.
     Value(i128),
     /// The exact result is out of range, and the mode is Checked or the type is the comptime one.
     Overflow,
