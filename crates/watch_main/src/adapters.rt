@@ -1,0 +1,1 @@
+// The real outside: files of a folder, and standard output.
