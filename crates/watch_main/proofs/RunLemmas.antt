@@ -81,12 +81,18 @@ answered s words held path session old new update.Memory named opens is ends =
     no_memory : (memory : Bool) → Fits s ends.written (first_ending (first_answer memory update.Memory)) → Fits s ends.written (first_ending update.Memory)
     no_memory true f = f
     no_memory false f = f
-answered s words held path session old new (update.Module bytes analysed reused) named opens is ends =
-    (ends.written, ends.taken, follows ends.memory s ends.written words held path session.files named opens.0
-      (subst (λ (a : Update). Fits s ends.written (first_ending (first_answer ends.memory a))) (is (λ e. cc) ∙ ap (λ root. update_of (compile root session.files)) opens.1) ends.fits))
-answered s words held path session old new (update.Errors lines analysed reused) named opens is ends =
-    (ends.written, ends.taken, follows ends.memory s ends.written words held path session.files named opens.0
-      (subst (λ (a : Update). Fits s ends.written (first_ending (first_answer ends.memory a))) (is (λ e. cc) ∙ ap (λ root. update_of (compile root session.files)) opens.1) ends.fits))
+answered s words held path session old new (update.Module bytes analysed reused) named opens is ends = (
+  ends.written,
+  ends.taken,
+  follows ends.memory s ends.written words held path session.files named opens.0
+      (subst (λ (a : Update). Fits s ends.written (first_ending (first_answer ends.memory a))) (is (λ e. cc) ∙ ap (λ root. update_of (compile root session.files)) opens.1) ends.fits),
+)
+answered s words held path session old new (update.Errors lines analysed reused) named opens is ends = (
+  ends.written,
+  ends.taken,
+  follows ends.memory s ends.written words held path session.files named opens.0
+      (subst (λ (a : Update). Fits s ends.written (first_ending (first_answer ends.memory a))) (is (λ e. cc) ∙ ap (λ root. update_of (compile root session.files)) opens.1) ends.fits),
+)
 
 -- a run that came to writing is no fault of a file
 pub no_file_fault : {P : Type 0} (s : Status) → IsWritten s → s ≡ status.FileFault → P
