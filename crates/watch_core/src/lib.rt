@@ -10,5 +10,7 @@
 mod compile;
 mod form;
 mod session;
+#[cfg(test)]
+mod tests;
 
 pub use session::{Session, SetFault, Update};

@@ -10,6 +10,8 @@
 mod adapters;
 mod answer;
 mod run;
+#[cfg(test)]
+mod tests;
 mod words;
 
 use adapters::{FolderFiles, StdSink};

@@ -15,6 +15,8 @@ mod plan;
 mod seq;
 mod sink;
 mod status;
+#[cfg(test)]
+mod tests;
 
 pub use diag::{DiagCode, Found, Span};
 pub use files::{Fetched, Files, MemFiles, SureFiles};
