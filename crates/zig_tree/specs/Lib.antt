@@ -1,0 +1,2 @@
+pub mod TokenBytes
+pub mod TokenTables

@@ -1,0 +1,12 @@
+//! The tokens of a file of Zig.
+#![tactic(auto)]
+
+mod bytes;
+mod fault;
+mod line;
+mod piece;
+mod quoted;
+mod tables;
+mod utf8;
+
+pub use fault::LexFault;
