@@ -1,3 +1,4 @@
 pub mod Rows
 pub mod Skips
 pub mod Lines
+pub mod Quotes

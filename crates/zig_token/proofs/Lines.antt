@@ -8,7 +8,8 @@ use Rattle.zig_token.specs.declared.fault.LexFault.TheVariants.{BadByte}
 use Rattle.zig_token.specs.Scan.{line_from, blanks_from, begins, lines_from, next_line}
 use Rattle.zig_token.proofs.Skips.{within_text, passed, here}
 
-is_byte_below : (low high b : ℕ) → is_within low high b ≡ true → low ≤ b
+-- a byte of a range is not below its low end
+pub is_byte_below : (low high b : ℕ) → is_within low high b ≡ true → low ≤ b
 is_byte_below low high b h = leb-true low b (and_parts _ _ h).0
 
 -- the last byte of a character is not 0, so it lies within the text

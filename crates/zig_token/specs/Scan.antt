@@ -72,13 +72,17 @@ hex_pair text at =
     if is_hex_digit (slice_index text at) then (if is_hex_digit (slice_index text (at + 1)) then Whole (at + 2) else Wrong (at + 1))
     else Wrong at
 
+-- `}` behind the digits of a code point, if there were some and it is no surrogate
+unfoldable pub closes_code : ℕ → Bool → ℕ → Bool
+closes_code b some value = b == 125 && (some && not (is_within 0xD800 0xDFFF value))
+
 -- the digits of a code point, and `}`: `some` says that there was a digit, value is that of the digits so far
 unfoldable pub code_from : ℕ → Bool → ℕ → List ℕ → Escape
 code_from value some at [] = Wrong at
 code_from value some at (b ∷ rest) =
     if is_hex_digit b then
         (if nat_le (16 * value + digit_value b) 0x10FFFF then code_from (16 * value + digit_value b) true (at + 1) rest else Wrong at)
-    else (if b == 125 && (some && not (is_within 0xD800 0xDFFF value)) then Whole (at + 1) else Wrong at)
+    else (if closes_code b some value then Whole (at + 1) else Wrong at)
 
 -- an escape, from its backslash: its end, or the first byte with which none begins
 unfoldable pub escape_at : List ℕ → ℕ → Escape

@@ -1,5 +1,5 @@
 // Bytes of a text, and the characters that may stand in comments and strings.
-ghost use Rattle.std.specs.Prelude.{◌≡◌, ◌≤◌, ◌<◌, ◌+◌, ◌^◌, length, slice_index, nat_eq};
+ghost use Rattle.std.specs.Prelude.{◌≡◌, ◌≤◌, ◌<◌, ◌+◌, ◌^◌, length, slice_index, true};
 ghost use Rattle.zig_tree.specs.TokenBytes.{is_within, is_digit, is_name_start, is_name_byte, is_hex_digit, digit_value, is_plain, is_blank, ends_line, is_tail, is_two_bytes, is_three_bytes, is_four_bytes, char_len};
 
 /// The byte at a place, and 0 past the end: 0 stands nowhere in a text that has tokens.
@@ -66,4 +66,20 @@ pub fn ends_line(text: &[u8], at: usize) -> bool
     text.len() <= at
         || byte_at(text, at) == b'\n'
         || (byte_at(text, at) == b'\r' && byte_at(text, at + 1) == b'\n')
+}
+
+/// The value of a digit, also of a hexadecimal one.
+#[tactic(auto, unfolding(zig_tree::specs::TokenBytes::is_hex_digit, zig_tree::specs::TokenBytes::digit_value, zig_tree::specs::TokenBytes::is_digit))]
+pub fn digit_value(byte: u8) -> u8
+    requires { is_hex_digit byte ≡ true }
+    ensures exact { result ≡ digit_value byte }
+    ensures small { result < 16 }
+{
+    if is_digit(byte) {
+        byte - b'0'
+    } else if is_within(b'A', b'F', byte) {
+        byte - 55
+    } else {
+        byte - 87
+    }
 }
