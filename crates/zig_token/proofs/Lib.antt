@@ -2,3 +2,5 @@ pub mod Rows
 pub mod Skips
 pub mod Lines
 pub mod Quotes
+pub mod Words
+pub mod Pieces

@@ -8,5 +8,6 @@ mod piece;
 mod quoted;
 mod tables;
 mod utf8;
+mod word;
 
 pub use fault::LexFault;
