@@ -4,3 +4,4 @@ pub mod Lines
 pub mod Quotes
 pub mod Words
 pub mod Pieces
+pub mod Reading

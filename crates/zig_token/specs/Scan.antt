@@ -1,14 +1,15 @@
 -- The tokens of a text, read from the left. A place is the number of the bytes before it; 0 stands for
 -- the byte past the end, since no rule has a use for 0.
-use Rattle.std.specs.Prelude.{ℕ, zero, suc, ◌+◌, ◌-◌, ◌*◌, ◌^◌, Bool, true, false, not, ◌==◌, nat_le, nat_lt, ◌&&◌, ◌||◌, if◌then◌else◌, List, [], ◌∷◌, length, slice_index, slice_range, drop, Option, Some, None, Result, Ok, Err}
+use Rattle.std.specs.Prelude.{◌≡◌, ℕ, zero, suc, ◌+◌, ◌-◌, ◌*◌, ◌^◌, Bool, true, false, not, ◌==◌, nat_le, nat_lt, ◌&&◌, ◌||◌, if◌then◌else◌, List, [], ◌∷◌, length, slice_index, slice_range, drop, Option, Some, None, Result, Ok, Err}
 use Rattle.std.specs.Option.{option_map_or}
+use Rattle.std.specs.Global.{Vec}
 use Rattle.zig_tree.specs.declared.token.TokenKind.{TokenKind}
 use Rattle.zig_tree.specs.declared.token.TokenKind.TheVariants.{Identifier, Builtin, Integer, Char, Str, MultilineStr, End}
 use Rattle.zig_tree.specs.declared.token.Token.{Token}
 use Rattle.zig_tree.specs.TokenBytes.{is_within, is_digit, is_name_start, is_name_byte, is_hex_digit, digit_value, is_blank, ends_line, char_len}
 use Rattle.zig_tree.specs.TokenTables.{symbols, word_kind, row_at_front}
 use Rattle.zig_token.specs.declared.fault.LexFault.{LexFault}
-use Rattle.zig_token.specs.declared.fault.LexFault.TheVariants.{BadByte, BadEscape, OpenString, BadNumber}
+use Rattle.zig_token.specs.declared.fault.LexFault.TheVariants.{BadByte, BadEscape, OpenString, BadNumber, OutOfMemory}
 use Rattle.zig_token.specs.declared.quoted.Escape.{Escape}
 use Rattle.zig_token.specs.declared.quoted.Escape.TheVariants.{Whole, Wrong}
 use Rattle.zig_token.specs.declared.piece.Piece.{Piece}
@@ -81,7 +82,7 @@ unfoldable pub code_from : ℕ → Bool → ℕ → List ℕ → Escape
 code_from value some at [] = Wrong at
 code_from value some at (b ∷ rest) =
     if is_hex_digit b then
-        (if nat_le (16 * value + digit_value b) 0x10FFFF then code_from (16 * value + digit_value b) true (at + 1) rest else Wrong at)
+    (if nat_le (16 * value + digit_value b) 0x10FFFF then code_from (16 * value + digit_value b) true (at + 1) rest else Wrong at)
     else (if closes_code b some value then Whole (at + 1) else Wrong at)
 
 -- an escape, from its backslash: its end, or the first byte with which none begins
@@ -161,10 +162,10 @@ digits_fit base value after_digit (b ∷ rest) =
 unfoldable pub is_integer : List ℕ → Bool
 is_integer word =
     if slice_index word 0 == 48 then
-        (if slice_index word 1 == 120 then digits_fit 16 0 false (drop 2 word)
-        else (if slice_index word 1 == 111 then digits_fit 8 0 false (drop 2 word)
-        else (if slice_index word 1 == 98 then digits_fit 2 0 false (drop 2 word)
-        else length word == 1)))
+    (if slice_index word 1 == 120 then digits_fit 16 0 false (drop 2 word)
+    else (if slice_index word 1 == 111 then digits_fit 8 0 false (drop 2 word)
+    else (if slice_index word 1 == 98 then digits_fit 2 0 false (drop 2 word)
+    else length word == 1)))
     else digits_fit 10 0 false word
 
 unfoldable pub number_end : List ℕ → ℕ → Result ℕ LexFault
@@ -236,3 +237,12 @@ text_start text = if begins text 0 0xEF 0xBB && slice_index text 2 == 0xBF then 
 
 unfoldable pub tokens_of : List ℕ → Result (List Token) LexFault
 tokens_of text = tokens_from text (text_start text) 0 (drop (text_start text) text)
+
+-- what a call answers is what reading gives, unless memory runs out
+abbrev pub Answers : Result (Vec Token) LexFault → Result (List Token) LexFault → Type 0
+Answers (Ok list) read = read ≡ Ok list.items
+Answers (Err OutOfMemory) read = Unit {0}
+Answers (Err (BadByte at)) read = read ≡ Err (BadByte at)
+Answers (Err (BadEscape at)) read = read ≡ Err (BadEscape at)
+Answers (Err (OpenString at)) read = read ≡ Err (OpenString at)
+Answers (Err (BadNumber at)) read = read ≡ Err (BadNumber at)

@@ -6,8 +6,13 @@ mod fault;
 mod line;
 mod piece;
 mod quoted;
+mod scan;
 mod tables;
 mod utf8;
 mod word;
 
 pub use fault::LexFault;
+pub use scan::tokens;
+
+#[cfg(test)]
+mod tests;

@@ -21,12 +21,7 @@ pub enum Escape {
 fn is_escaped(byte: u8) -> bool
     ensures { result ≡ is_escaped byte }
 {
-    byte == b'n'
-        || byte == b'r'
-        || byte == b't'
-        || byte == b'\\'
-        || byte == b'\''
-        || byte == b'"'
+    byte == b'n' || byte == b'r' || byte == b't' || byte == b'\\' || byte == b'\'' || byte == b'"'
 }
 
 #[tactic(auto, using(crate::proofs::Quotes::hex_within), unfolding(crate::specs::Scan::hex_pair))]

@@ -1,0 +1,68 @@
+// The tokens of a text, from the first to the end of the file.
+ghost use Rattle.std.specs.Prelude.{◌≡◌, ◌≤◌, ◌<◌, ◌^◌, length};
+ghost use Rattle.zig_token.specs.Scan.{tokens_of, text_start, token_from, Answers};
+
+use crate::bytes::byte_at;
+use crate::fault::LexFault;
+use crate::line::begins;
+use crate::piece::{Piece, piece_at};
+use std::alloc::Global;
+use zig_tree::{Token, TokenKind};
+use zw_base::Span;
+
+/// Where the text begins, behind a byte order mark.
+#[tactic(auto, using(crate::proofs::Skips::within_text), unfolding(crate::specs::Scan::text_start))]
+fn text_start(text: &[u8]) -> usize
+    ensures exact { result ≡ text_start text.now }
+    ensures within { result ≤ length text.now }
+{
+    if begins(text, 0, 0xEF, 0xBB) && byte_at(text, 2) == 0xBF {
+        3
+    } else {
+        0
+    }
+}
+
+fn token(kind: TokenKind, start: usize, end: usize) -> Token
+    requires { (start < 2 ^ 32) × (end < 2 ^ 32) }
+    ensures { result ≡ token_from kind start end }
+{
+    Token {
+        kind,
+        span: Span {
+            start: start as u32,
+            end: end as u32,
+        },
+    }
+}
+
+/// The tokens of a text, or the first fault, reading from the left.
+#[tactic(auto, using(crate::proofs::Reading::gap_passed, crate::proofs::Reading::token_passed, crate::proofs::Reading::fault_shown, crate::proofs::Reading::text_done), unfolding(crate::specs::Scan::tokens_of))]
+fn scan(alloc: Global, text: &[u8]) -> Result<Vec<Token>, LexFault>
+    requires { length text.now < 2 ^ 32 }
+    ensures { Answers result (tokens_of text.now) }
+{
+    let mut list = Vec::new(alloc);
+    let mut at = text_start(text);
+    while at < text.len() {
+        match piece_at(text, at)? {
+            Piece::Gap(end) => at = end,
+            Piece::Token(kind, end) => {
+                list.push(token(kind, at, end))?;
+                at = end;
+            }
+        }
+    }
+    list.push(token(TokenKind::End, at, at))?;
+    Ok(list)
+}
+
+/// The tokens of a text, or its first fault. The last token is `End`, with an empty span at the
+/// text's length (Zig Language Reference 0.14, "Grammar").
+pub fn tokens(alloc: Global, text: &[u8]) -> Result<Vec<Token>, LexFault>
+    requires { length text.now < 2 ^ 32 }
+    // What reading from the left gives.
+    ensures exact { Answers result (tokens_of text.now) }
+{
+    scan(alloc, text)
+}
