@@ -1,13 +1,9 @@
-// A library with one function.
+//! Diagnostics in their places: what a compilation answers where it gives no module.
+//!
+//! The model: a `Line` is a diagnostic with its path, line and column, as it is printed.
+//! The crate stands on `zw_base` alone.
 #![tactic(auto)]
 
-ghost use Rattle.std.specs.Prelude.{◌≡◌};
-ghost use Rattle.diag_order.specs.Echo.{echo_of};
+mod line;
 
-// The `ensures` clause is the contract: what `echo` returns is `echo_of` of its argument, a definition
-// in `specs/Echo.antt`, which a caller's clause can cite too.
-pub fn echo(x: usize) -> usize
-    ensures { result ≡ echo_of x }
-{
-    x
-}
+pub use line::{Diag, Line};

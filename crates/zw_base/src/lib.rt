@@ -8,7 +8,16 @@
 #![tactic(auto)]
 
 mod diag;
+mod files;
+mod path;
+mod plan;
 mod seq;
+mod sink;
+mod status;
 
 pub use diag::{DiagCode, Found, Span};
+pub use files::{Fetched, Files, MemFiles, SureFiles};
+pub use path::{FilePath, FileSizes, FileTexts, PathFault};
 pub use seq::{Bytes, Seq};
+pub use sink::{Failed, MemSink, Sink, SureSink};
+pub use status::{Status, Which};

@@ -65,6 +65,9 @@ length-groups_more limit s n low ge h = rw (groups_more limit s n low ge h) (ome
 pub unsigned_room : (n : ℕ) → n < 2 ^ 32 → length (groups 128 false 10 n) ≤ 5
 unsigned_room n h = length-groups 128 false 4 9 n (omega arith) (omega arith)
 
+pub length_room : (n : ℕ) → n < 2 ^ 64 → length (groups 128 false 10 n) ≤ 10
+length_room n h = length-groups 128 false 9 9 n (omega arith) (omega arith)
+
 pub signed_room : (s : Bool) (n : ℕ) → n < 2 ^ 32 → length (groups 64 s 10 n) ≤ 5
 signed_room s n h = length-groups 64 s 4 9 n (omega arith) (omega arith)
 

@@ -48,6 +48,14 @@ impl ByteBuf {
         self.inner.push_reserved(b);
     }
 
+    /// Appends bytes, for which it makes room. An `Err` changes nothing.
+    pub fn put_slice(&mut self, bytes: &[u8]) -> Result<(), AllocError>
+        ensures ok { OnOk result (self.new.bytes ≡ self.old.bytes ++ bytes.now) }
+        ensures err { OnErr result (self.new.bytes ≡ self.old.bytes) }
+    {
+        self.inner.extend_from_slice(bytes)
+    }
+
     pub fn len(&self) -> usize
         ensures { result ≡ length self.now.bytes }
     {

@@ -22,6 +22,16 @@ impl ByteBuf {
         self.put_groups(u64::from(v), UNSIGNED_LIMIT, false);
     }
 
+    /// Appends a length in its shortest form as an unsigned number, at most ten bytes.
+    #[tactic(auto, using(crate::proofs::LebLemmas::length_room))]
+    pub fn put_len(&mut self, n: usize)
+        requires { 10 ≤ self.old.spare }
+        ensures bytes { self.new.bytes ≡ self.old.bytes ++ unsigned_leb n }
+        ensures spare { self.new.spare + length (unsigned_leb n) ≡ self.old.spare }
+    {
+        self.put_groups(n as u64, UNSIGNED_LIMIT, false);
+    }
+
     /// Appends a signed number in its shortest form, at most five bytes.
     #[tactic(auto, using(crate::proofs::LebLemmas::signed_room, crate::proofs::LebLemmas::signed_negative, crate::proofs::LebLemmas::signed_positive))]
     pub fn put_s32(&mut self, v: i32)

@@ -1,0 +1,16 @@
+//! The form of a WebAssembly module (WebAssembly Core 1.0, chapter 5) and its binary encoding.
+//!
+//! The model: a `Module` is plain data, section by section, as the binary format lays it out; its
+//! bytes are the function `module_bytes` of it, put together from the bytes of each part in the words
+//! of the standard.
+//! Public calls: `encode`. The crate stands on `zw_base` (lists) and `zw_bytes` (the buffer, LEB128).
+#![tactic(auto)]
+
+mod encoder;
+mod module;
+mod parts;
+
+pub use encoder::{EncodeFault, encode};
+pub use module::{
+    Code, Export, Exported, FnType, Global, Instr, Locals, Memory, Module, TypeIndex, ValType,
+};

@@ -1,0 +1,87 @@
+// A module, section by section (WebAssembly Core 1.0, section 5.5).
+use zw_base::{Bytes, Seq};
+
+/// A type of values (section 5.3.1).
+#[derive(Clone, Copy, Debug, PartialEq, Eq)]
+pub enum ValType {
+    I32,
+    I64,
+}
+
+/// The type of a function: what it takes, and what it gives if anything (section 5.3.3).
+#[derive(Debug, Drop)]
+pub struct FnType {
+    pub params: Seq<ValType>,
+    pub result: Option<ValType>,
+}
+
+/// A place in the list of types.
+#[derive(Clone, Copy, Debug, PartialEq, Eq)]
+pub struct TypeIndex(pub u32);
+
+/// A memory without a maximum; a page has 65,536 bytes (section 5.3.5).
+#[derive(Clone, Copy, Debug, PartialEq, Eq)]
+pub struct Memory {
+    pub min_pages: u32,
+}
+
+/// A global variable and the constant expression that it begins with (section 5.5.9).
+#[derive(Debug, Drop)]
+pub struct Global {
+    pub kind: ValType,
+    pub is_mutable: bool,
+    pub init: Seq<Instr>,
+}
+
+/// What an export names.
+#[derive(Clone, Copy, Debug, PartialEq, Eq)]
+pub enum Exported {
+    /// The function with this index.
+    Function(u32),
+    /// The memory with this index.
+    Memory(u32),
+}
+
+/// A name under which the module's host finds something (section 5.5.10).
+#[derive(Debug, Drop)]
+pub struct Export {
+    pub name: Bytes,
+    pub what: Exported,
+}
+
+/// Neighbouring locals of one type (section 5.5.13).
+#[derive(Clone, Copy, Debug, PartialEq, Eq)]
+pub struct Locals {
+    pub count: u32,
+    pub kind: ValType,
+}
+
+/// The code of a function, without the `end` that closes it (section 5.5.13).
+#[derive(Debug, Drop)]
+pub struct Code {
+    pub locals: Seq<Locals>,
+    pub body: Seq<Instr>,
+}
+
+/// An instruction (section 5.4).
+#[derive(Clone, Copy, Debug, PartialEq, Eq)]
+pub enum Instr {
+    /// `end` of a block.
+    End,
+    /// `return`.
+    Return,
+    /// `i32.const`, of the number with these 32 bits.
+    I32Const(i32),
+}
+
+/// A module. Its sections stand in the order of the binary format; one without an entry is left out.
+#[derive(Debug, Drop)]
+pub struct Module {
+    pub types: Seq<FnType>,
+    pub functions: Seq<TypeIndex>,
+    pub memories: Seq<Memory>,
+    pub globals: Seq<Global>,
+    pub exports: Seq<Export>,
+    /// The codes of `functions`, in their order.
+    pub codes: Seq<Code>,
+}
