@@ -5,5 +5,10 @@
 #![tactic(auto)]
 
 mod line;
+mod order;
+mod place;
+mod sorting;
 
 pub use line::{Diag, Line};
+pub use place::line_col;
+pub use sorting::sorted;
