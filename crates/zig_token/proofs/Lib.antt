@@ -5,3 +5,7 @@ pub mod Quotes
 pub mod Words
 pub mod Pieces
 pub mod Reading
+pub mod Runs
+pub mod LawChars
+pub mod LawEscapes
+pub mod LawQuotes

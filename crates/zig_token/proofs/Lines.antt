@@ -5,7 +5,8 @@ use Rattle.std.proofs.lemmas.List.{drop_all}
 use Rattle.zig_tree.specs.TokenBytes.{is_plain, is_two_bytes, is_three_bytes, is_four_bytes, is_within, is_tail, char_len, ends_line}
 use Rattle.zig_token.specs.declared.fault.LexFault.{LexFault}
 use Rattle.zig_token.specs.declared.fault.LexFault.TheVariants.{BadByte}
-use Rattle.zig_token.specs.Scan.{line_from, blanks_from, begins, lines_from, next_line}
+use Rattle.zig_token.specs.Scan.{line_from, blanks_from, lines_from, next_line}
+use Rattle.zig_tree.specs.TokenBytes.{begins}
 use Rattle.zig_token.proofs.Skips.{within_text, passed, here}
 
 -- a byte of a range is not below its low end

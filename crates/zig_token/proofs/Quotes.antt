@@ -6,7 +6,8 @@ use Rattle.zig_tree.specs.TokenBytes.{is_hex_digit, is_digit, is_within, digit_v
 use Rattle.zig_token.specs.declared.fault.LexFault.{LexFault}
 use Rattle.zig_token.specs.declared.fault.LexFault.TheVariants.{OpenString}
 use Rattle.zig_token.specs.declared.quoted.Escape.TheVariants.{Whole, Wrong}
-use Rattle.zig_token.specs.Scan.{is_escaped, closes_code, code_from, quoted_from, item_end}
+use Rattle.zig_token.specs.Scan.{closes_code, code_from, quoted_from, item_end}
+use Rattle.zig_tree.specs.TokenBytes.{is_escaped}
 use Rattle.zig_token.proofs.Skips.{within_text, passed, here}
 use Rattle.zig_token.proofs.Lines.{is_byte_below}
 

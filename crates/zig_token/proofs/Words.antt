@@ -3,7 +3,8 @@ use Rattle.std.proofs.Common.{◌≡◌, ℕ, suc, ◌+◌, ◌-◌, ◌*◌, �
 use Rattle.std.proofs.lemmas.Bool.{ne_eqb, lt-ltb, le-ltb, and_left, and_right}
 use Rattle.std.proofs.lemmas.List.{drop_all}
 use Rattle.zig_tree.specs.TokenBytes.{is_name_byte, is_hex_digit, digit_value}
-use Rattle.zig_token.specs.Scan.{name_from, digits_fit}
+use Rattle.zig_token.specs.Scan.{name_from}
+use Rattle.zig_tree.specs.TokenNumbers.{digits_fit}
 use Rattle.zig_token.proofs.Skips.{here}
 
 module _ (text : List ℕ) (at : ℕ) (lt : at < length text) where

@@ -6,7 +6,8 @@ use Rattle.std.specs.Global.{Vec}
 use Rattle.zig_tree.specs.declared.token.TokenKind.{TokenKind}
 use Rattle.zig_tree.specs.declared.token.TokenKind.TheVariants.{Identifier, Builtin, Integer, Char, Str, MultilineStr, End}
 use Rattle.zig_tree.specs.declared.token.Token.{Token}
-use Rattle.zig_tree.specs.TokenBytes.{is_within, is_digit, is_name_start, is_name_byte, is_hex_digit, digit_value, is_blank, ends_line, char_len}
+use Rattle.zig_tree.specs.TokenBytes.{is_within, is_digit, is_name_start, is_name_byte, is_hex_digit, digit_value, is_blank, ends_line, char_len, begins, is_escaped, text_start}
+use Rattle.zig_tree.specs.TokenNumbers.{is_integer}
 use Rattle.zig_tree.specs.TokenTables.{symbols, word_kind, row_at_front}
 use Rattle.zig_token.specs.declared.fault.LexFault.{LexFault}
 use Rattle.zig_token.specs.declared.fault.LexFault.TheVariants.{BadByte, BadEscape, OpenString, BadNumber, OutOfMemory}
@@ -19,10 +20,6 @@ infixl 10 ◌>>=◌
 abbrev pub ◌>>=◌ : {A B : Type 0} → Result A LexFault → (A → Result B LexFault) → Result B LexFault
 (Ok x) >>= f = f x
 (Err e) >>= f = Err e
-
--- two bytes stand at a place
-unfoldable pub begins : List ℕ → ℕ → ℕ → ℕ → Bool
-begins text at a b = slice_index text at == a && slice_index text (at + 1) == b
 
 -- ---- lines
 
@@ -63,10 +60,6 @@ unfoldable pub lines_end : List ℕ → ℕ → Result ℕ LexFault
 lines_end text at = lines_from text at 0 (drop at text)
 
 -- ---- quotes
-
--- what may follow a backslash by itself: n r t \ ' "
-unfoldable pub is_escaped : ℕ → Bool
-is_escaped b = b == 110 || (b == 114 || (b == 116 || (b == 92 || (b == 39 || b == 34))))
 
 unfoldable pub hex_pair : List ℕ → ℕ → Escape
 hex_pair text at =
@@ -151,23 +144,6 @@ name_from at (b ∷ rest) = if is_name_byte b then name_from (at + 1) rest else 
 unfoldable pub name_end : List ℕ → ℕ → ℕ
 name_end text at = name_from at (drop at text)
 
--- digits of a base with `_` only between them, whose number is below 2 ^ 127; value is that of the digits before
-unfoldable pub digits_fit : ℕ → ℕ → Bool → List ℕ → Bool
-digits_fit base value after_digit [] = after_digit
-digits_fit base value after_digit (b ∷ rest) =
-    if b == 95 then after_digit && digits_fit base value false rest
-    else is_hex_digit b && (nat_lt (digit_value b) base && (nat_lt (base * value + digit_value b) (2 ^ 127) && digits_fit base (base * value + digit_value b) true rest))
-
--- a whole number: 0, digits that begin with another, or 0x, 0o, 0b and digits
-unfoldable pub is_integer : List ℕ → Bool
-is_integer word =
-    if slice_index word 0 == 48 then
-    (if slice_index word 1 == 120 then digits_fit 16 0 false (drop 2 word)
-    else (if slice_index word 1 == 111 then digits_fit 8 0 false (drop 2 word)
-    else (if slice_index word 1 == 98 then digits_fit 2 0 false (drop 2 word)
-    else length word == 1)))
-    else digits_fit 10 0 false word
-
 unfoldable pub number_end : List ℕ → ℕ → Result ℕ LexFault
 number_end text at =
     let end = name_end text at in
@@ -230,10 +206,6 @@ tokens_from text at skip [] = Ok (token_from End at at ∷ [])
 tokens_from text at (suc skip) (b ∷ rest) = tokens_from text (at + 1) skip rest
 tokens_from text at zero (b ∷ rest) =
     piece_at text at >>= λ piece. put at piece (tokens_from text (at + 1) (piece_end piece - (at + 1)) rest)
-
--- a byte order mark at the start is no part of the text
-unfoldable pub text_start : List ℕ → ℕ
-text_start text = if begins text 0 0xEF 0xBB && slice_index text 2 == 0xBF then 3 else 0
 
 unfoldable pub tokens_of : List ℕ → Result (List Token) LexFault
 tokens_of text = tokens_from text (text_start text) 0 (drop (text_start text) text)

@@ -1,13 +1,14 @@
 // Lines of text: comments, and strings of several lines.
 ghost use Rattle.std.specs.Prelude.{◌≡◌, ◌≤◌, ◌<◌, ◌+◌, ◌^◌, length, drop, IfOk, IfSome};
-ghost use Rattle.zig_token.specs.Scan.{begins, line_end, blanks_from, next_line, lines_end};
+ghost use Rattle.zig_token.specs.Scan.{line_end, blanks_from, next_line, lines_end};
+ghost use Rattle.zig_tree.specs.TokenBytes.{begins};
 
 use crate::bytes::{byte_at, ends_line};
 use crate::fault::LexFault;
 use crate::utf8::char_len;
 
 /// Whether two bytes stand at a place.
-#[tactic(auto, unfolding(crate::specs::Scan::begins))]
+#[tactic(auto, unfolding(zig_tree::specs::TokenBytes::begins))]
 pub fn begins(text: &[u8], at: usize, first: u8, second: u8) -> bool
     requires { at < 2 ^ 63 }
     ensures { result ≡ begins text.now at first second }

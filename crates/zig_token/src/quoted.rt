@@ -1,7 +1,8 @@
 // Escapes, strings on one line, character literals (Zig Language Reference 0.14, "Escape Sequences").
 ghost use Rattle.std.specs.Prelude.{◌≡◌, ◌≤◌, ◌<◌, ◌+◌, ◌*◌, ◌^◌, length, drop, IfOk, false};
 ghost use Rattle.zig_tree.specs.TokenBytes.{is_hex_digit, digit_value};
-ghost use Rattle.zig_token.specs.Scan.{is_escaped, hex_pair, closes_code, code_from, escape_at, misfit, item_end, quoted_end, char_misfit, char_escape_misfit, char_item_end, char_end};
+ghost use Rattle.zig_token.specs.Scan.{hex_pair, closes_code, code_from, escape_at, misfit, item_end, quoted_end, char_misfit, char_escape_misfit, char_item_end, char_end};
+ghost use Rattle.zig_tree.specs.TokenBytes.{is_escaped};
 ghost use Rattle.zig_token.specs.Escapes.{EndsWithin};
 
 use crate::bytes::{byte_at, digit_value, ends_line, is_hex_digit, is_within};
@@ -17,7 +18,7 @@ pub enum Escape {
     Wrong(usize),
 }
 
-#[tactic(auto, unfolding(crate::specs::Scan::is_escaped))]
+#[tactic(auto, unfolding(zig_tree::specs::TokenBytes::is_escaped))]
 fn is_escaped(byte: u8) -> bool
     ensures { result ≡ is_escaped byte }
 {

@@ -1,6 +1,7 @@
 // The tokens of a text, from the first to the end of the file.
 ghost use Rattle.std.specs.Prelude.{◌≡◌, ◌≤◌, ◌<◌, ◌^◌, length};
-ghost use Rattle.zig_token.specs.Scan.{tokens_of, text_start, token_from, Answers};
+ghost use Rattle.zig_token.specs.Scan.{tokens_of, token_from, Answers};
+ghost use Rattle.zig_tree.specs.TokenBytes.{text_start};
 
 use crate::bytes::byte_at;
 use crate::fault::LexFault;
@@ -11,7 +12,7 @@ use zig_tree::{Token, TokenKind};
 use zw_base::Span;
 
 /// Where the text begins, behind a byte order mark.
-#[tactic(auto, using(crate::proofs::Skips::within_text), unfolding(crate::specs::Scan::text_start))]
+#[tactic(auto, using(crate::proofs::Skips::within_text), unfolding(zig_tree::specs::TokenBytes::text_start))]
 fn text_start(text: &[u8]) -> usize
     ensures exact { result ≡ text_start text.now }
     ensures within { result ≤ length text.now }

@@ -1,7 +1,8 @@
 // Names and numbers (Zig Language Reference 0.14, "Integer Literals").
 ghost use Rattle.std.specs.Prelude.{◌≡◌, ◌≤◌, ◌<◌, ◌+◌, ◌^◌, length, drop, IfOk, SomeIff, ◌*◌, false, true, slice_index};
 ghost use Rattle.zig_tree.specs.TokenBytes.{is_digit};
-ghost use Rattle.zig_token.specs.Scan.{name_end, digits_fit, is_integer, number_end};
+ghost use Rattle.zig_token.specs.Scan.{name_end, number_end};
+ghost use Rattle.zig_tree.specs.TokenNumbers.{digits_fit, is_integer};
 
 use crate::bytes::{byte_at, digit_value, is_digit, is_hex_digit, is_name_byte};
 use crate::fault::LexFault;
@@ -57,7 +58,7 @@ fn digits_fit(base: u8, digits: &[u8]) -> bool
     after_digit
 }
 
-#[tactic(auto, unfolding(crate::specs::Scan::is_integer))]
+#[tactic(auto, unfolding(zig_tree::specs::TokenNumbers::is_integer))]
 fn is_integer(word: &[u8]) -> bool
     ensures { result ≡ is_integer word.now }
 {

@@ -67,3 +67,15 @@ char_len text at =
     else (if is_two_bytes a b then 2
     else (if is_three_bytes a b c then 3
     else (if is_four_bytes a b c d then 4 else 0)))
+
+-- two bytes stand at a place
+unfoldable pub begins : List ℕ → ℕ → ℕ → ℕ → Bool
+begins text at a b = slice_index text at == a && slice_index text (at + 1) == b
+
+-- what may follow a backslash by itself: n r t \ ' "
+unfoldable pub is_escaped : ℕ → Bool
+is_escaped b = b == 110 || (b == 114 || (b == 116 || (b == 92 || (b == 39 || b == 34))))
+
+-- a byte order mark at the start is no part of the text
+unfoldable pub text_start : List ℕ → ℕ
+text_start text = if begins text 0 0xEF 0xBB && slice_index text 2 == 0xBF then 3 else 0

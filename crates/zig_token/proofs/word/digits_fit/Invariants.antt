@@ -1,5 +1,5 @@
 use Rattle.std.proofs.Common.{◌≡◌, ◌-◌, ◌≤◌, false, length, drop}
-use Rattle.zig_token.specs.Scan.{digits_fit}
+use Rattle.zig_tree.specs.TokenNumbers.{digits_fit}
 use Rattle.zig_token.proofs.word.digits_fit.Given as goal
 
 abbrev pub invariant-loop-byte : goal.invariant-loop-byte
