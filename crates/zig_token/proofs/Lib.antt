@@ -9,3 +9,5 @@ pub mod Runs
 pub mod LawChars
 pub mod LawEscapes
 pub mod LawQuotes
+pub mod LawWords
+pub mod LawLines

@@ -11,7 +11,7 @@ use Rattle.zig_tree.specs.TokenTables.{Row, symbols, row_at_front}
 use Rattle.zig_token.specs.Scan.{name_end, name_from}
 use Rattle.zig_token.proofs.Skips.{here}
 
-name_from_after : (at : ℕ) (bytes : List ℕ) → at ≤ name_from at bytes
+pub name_from_after : (at : ℕ) (bytes : List ℕ) → at ≤ name_from at bytes
 unfolding name_from
 name_from_after at [] = omega arith
 name_from_after at (b ∷ bytes) = cond_both (is_name_byte b) (name_from (at + 1) bytes) at (λ n. at ≤ n) (λ _. omega (arith, name_from_after (at + 1) bytes)) (λ _. omega arith)
