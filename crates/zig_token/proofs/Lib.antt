@@ -11,3 +11,5 @@ pub mod LawEscapes
 pub mod LawQuotes
 pub mod LawWords
 pub mod LawLines
+pub mod LawSymbols
+pub mod LawPieces

@@ -41,7 +41,7 @@ fits_row (row ∷ rows) bytes h =
     (λ same. (ltb-true 0 (length row.0) (and_parts _ _ h).0, omega (arith, ap length ((bytes_eq-Decides row.0 (take (length row.0) bytes)).0 same), length-take (length row.0) bytes)))
     (λ _. fits_row rows bytes (and_parts _ _ h).1)
 
-symbols_fit : (bytes : List ℕ) → IfSome (row_at_front symbols bytes) (λ found. (0 < found.0) × (found.0 ≤ length bytes))
+pub symbols_fit : (bytes : List ℕ) → IfSome (row_at_front symbols bytes) (λ found. (0 < found.0) × (found.0 ≤ length bytes))
 symbols_fit bytes = fits_row symbols bytes refl
 
 pub symbol_fits : (bytes : List ℕ) (found : ℕ × TokenKind) → row_at_front symbols bytes ≡ Some found → (row_at_front symbols bytes ≡ row_at_front symbols bytes) × ((0 < found.0) × (found.0 ≤ length bytes))
