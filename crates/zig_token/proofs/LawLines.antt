@@ -70,7 +70,7 @@ feed_some : (text : List ℕ) (a : ℕ) → ends_line text a ≡ true → a < le
 unfolding ends_line begins
 feed_some text a e lt =
     elim (or_cases _ _ e) [
-      | inl past ↦ absurd (omega (arith, leb-true (length text) a past))
+      | inl past ↦ let reached = leb-true (length text) a past in absurd (omega arith)
       | inr line ↦ elim (or_cases _ _ line) [ inl l ↦ (a + 1, lf (eqb-true _ 10 l) refl) | inr c ↦ (a + 2, cr_lf c refl) ]
     ]
 

@@ -22,7 +22,7 @@ use Rattle.zig_token.proofs.LawLines.{lines_read, lines_fault_read, lines_outcom
 use Rattle.zig_token.proofs.LawSymbols.{Longest, HeadOnly, symbol_long, symbol_longest, symbol_length, symbol_head, symbol_found}
 
 -- ---- which byte begins what
-begins_first : (text : List ℕ) (a x y : ℕ) → begins text a x y ≡ true → get_or text a 0 ≡ x
+pub begins_first : (text : List ℕ) (a x y : ℕ) → begins text a x y ≡ true → get_or text a 0 ≡ x
 unfolding begins
 begins_first text a x y h = eqb-true _ x (and_parts _ _ h).0
 
@@ -66,11 +66,11 @@ plain_from text a b e s t l c k q r w =
       lines = begins_not text a 92 92 (ap (λ n. eqb n 92) e ∙ ne_eqb b 92 w);
     }
 
-digit_range : (b : ℕ) → is_digit b ≡ true → (48 ≤ b) × (b ≤ 57)
+pub digit_range : (b : ℕ) → is_digit b ≡ true → (48 ≤ b) × (b ≤ 57)
 unfolding is_digit
 digit_range b h = let p = and_parts _ _ h in (leb-true 48 b p.0, leb-true b 57 p.1)
 
-name_range : (b : ℕ) → is_name_start b ≡ true → (65 ≤ b) × (b ≤ 122) × (b ≢ 92)
+pub name_range : (b : ℕ) → is_name_start b ≡ true → (65 ≤ b) × (b ≤ 122) × (b ≢ 92)
 unfolding is_name_start
 name_range b h =
     elim (or_cases _ _ h) [
@@ -95,13 +95,13 @@ not_digit : (b : ℕ) → 57 < b → is_digit b ≡ false
 unfolding is_digit
 not_digit b lt = and_right _ _ (lt-leb b 57 lt)
 
-digit_piece : (text : List ℕ) (a : ℕ) → is_digit (get_or text a 0) ≡ true → piece_at text a ≡ as_token Integer (number_end text a)
+pub digit_piece : (text : List ℕ) (a : ℕ) → is_digit (get_or text a 0) ≡ true → piece_at text a ≡ as_token Integer (number_end text a)
 digit_piece text a d =
     let r = digit_range (get_or text a 0) d in
     let no_at : eqb (get_or text a 0) 64 ≡ false = ne_eqb _ 64 (λ e. omega arith) in
     plain_token text a (digit_plain text a d) ∙ rw (no_at, d) refl
 
-name_piece : (text : List ℕ) (a : ℕ) → is_name_start (get_or text a 0) ≡ true → piece_at text a ≡ Ok (pieces.Token (word_kind (slice_range text a (name_end text a))) (name_end text a))
+pub name_piece : (text : List ℕ) (a : ℕ) → is_name_start (get_or text a 0) ≡ true → piece_at text a ≡ Ok (pieces.Token (word_kind (slice_range text a (name_end text a))) (name_end text a))
 unfolding word_or_symbol
 name_piece text a n =
     let r = name_range (get_or text a 0) n in
@@ -111,18 +111,18 @@ name_piece text a n =
 at_piece : (text : List ℕ) (a : ℕ) → get_or text a 0 ≡ 64 → piece_at text a ≡ at_sign text a
 at_piece text a e = plain_token text a (at_plain text a e) ∙ rw e refl
 
-string_piece : (text : List ℕ) (a : ℕ) → get_or text a 0 ≡ 34 → piece_at text a ≡ as_token Str (quoted_end text a)
+pub string_piece : (text : List ℕ) (a : ℕ) → get_or text a 0 ≡ 34 → piece_at text a ≡ as_token Str (quoted_end text a)
 unfolding piece_at token_at is_blank begins
 string_piece text a e = rw e refl
 
-literal_piece : (text : List ℕ) (a : ℕ) → get_or text a 0 ≡ 39 → piece_at text a ≡ as_token Char (char_end text a)
+pub literal_piece : (text : List ℕ) (a : ℕ) → get_or text a 0 ≡ 39 → piece_at text a ≡ as_token Char (char_end text a)
 unfolding piece_at token_at is_blank begins
 literal_piece text a e = rw e refl
 
 blank_at : (text : List ℕ) (a b : ℕ) → get_or text a 0 ≡ b → is_blank b ≡ false → is_blank (get_or text a 0) ≡ false
 blank_at text a b e h = ap is_blank e ∙ h
 
-lines_piece : (text : List ℕ) (a : ℕ) → begins text a 92 92 ≡ true → piece_at text a ≡ as_token MultilineStr (lines_end text (a + 2))
+pub lines_piece : (text : List ℕ) (a : ℕ) → begins text a 92 92 ≡ true → piece_at text a ≡ as_token MultilineStr (lines_end text (a + 2))
 unfolding piece_at token_at
 lines_piece text a h =
     let e = begins_first text a 92 92 h in
@@ -162,11 +162,11 @@ quoted_second : (text : List ℕ) (a : ℕ) → get_or text (a + 2) 0 ≢ 34 →
 quoted_second text a other =
     begins_not_second text (a + 1) 34 34 (λ e. other (ap (λ n. get_or text n 0) (omega arith) ∙ e))
 
-quoted_piece : (text : List ℕ) (a : ℕ) → get_or text a 0 ≡ 64 → get_or text (a + 1) 0 ≡ 34 → get_or text (a + 2) 0 ≢ 34 → piece_at text a ≡ as_token Identifier (quoted_end text (a + 1))
+pub quoted_piece : (text : List ℕ) (a : ℕ) → get_or text a 0 ≡ 64 → get_or text (a + 1) 0 ≡ 34 → get_or text (a + 2) 0 ≢ 34 → piece_at text a ≡ as_token Identifier (quoted_end text (a + 1))
 unfolding at_sign
 quoted_piece text a at quote other = at_piece text a at ∙ rw (quoted_second text a other, quote) refl
 
-builtin_piece : (text : List ℕ) (a : ℕ) → get_or text a 0 ≡ 64 → is_name_start (get_or text (a + 1) 0) ≡ true → piece_at text a ≡ Ok (pieces.Token Builtin (name_end text (a + 1)))
+pub builtin_piece : (text : List ℕ) (a : ℕ) → get_or text a 0 ≡ 64 → is_name_start (get_or text (a + 1) 0) ≡ true → piece_at text a ≡ Ok (pieces.Token Builtin (name_end text (a + 1)))
 unfolding at_sign
 builtin_piece text a at n =
     let r = name_range (get_or text (a + 1) 0) n in
@@ -177,11 +177,11 @@ symbol_plain : (text : List ℕ) (a : ℕ) → begins text a 47 47 ≡ false →
 symbol_plain text a no_comment h =
     record { blank = h.blank; line_end = begins_not text a 13 10 h.cr; comment = no_comment; string = h.string; literal = h.literal; lines = begins_not text a 92 92 h.slash }
 
-symbol_piece : (text : List ℕ) (a : ℕ) → Plain text a → eqb (get_or text a 0) 64 ≡ false → is_digit (get_or text a 0) ≡ false → is_name_start (get_or text a 0) ≡ false → piece_at text a ≡ symbol_at text a
+pub symbol_piece : (text : List ℕ) (a : ℕ) → Plain text a → eqb (get_or text a 0) 64 ≡ false → is_digit (get_or text a 0) ≡ false → is_name_start (get_or text a 0) ≡ false → piece_at text a ≡ symbol_at text a
 unfolding word_or_symbol
 symbol_piece text a p at d n = plain_token text a p ∙ rw (at, d, n) refl
 
-symbol_some : (text : List ℕ) (a : ℕ) (found : ℕ × TokenKind) → row_at_front symbols (drop a text) ≡ Some found → symbol_at text a ≡ Ok (pieces.Token found.1 (a + found.0))
+pub symbol_some : (text : List ℕ) (a : ℕ) (found : ℕ × TokenKind) → row_at_front symbols (drop a text) ≡ Some found → symbol_at text a ≡ Ok (pieces.Token found.1 (a + found.0))
 unfolding symbol_at
 symbol_some text a found e = rw e refl
 
@@ -199,6 +199,10 @@ module _ (text : List ℕ) (kind : TokenKind) (a b : ℕ) where
   symbol_reaches (symbol no_comment fits row) =
       let h = symbol_head text kind a b fits row in
       symbol_reaches_by (row_at_front symbols (drop a text)) refl fits (symbol_piece text a (symbol_plain text a no_comment h) h.at_sign h.digit h.name) (symbol_long text kind a b fits row) (symbol_length text kind a b fits row) (symbol_longest text kind a b fits row)
+
+-- where no row is at the front, no symbol stands
+pub symbol_absent : (text : List ℕ) (kind : TokenKind) (a b : ℕ) → IsSymbol text kind a b → row_at_front symbols (drop a text) ≡ None → ⊥
+symbol_absent text kind a b (symbol no_comment fits row) e = subst (λ o. Longest (drop a text) o (slice_range text a b, kind)) e (symbol_longest text kind a b fits row)
 
 number_digit : (text : List ℕ) (a b : ℕ) → IsNumber text a b → is_digit (get_or text a 0) ≡ true
 number_digit text a b (rel.number d lt run whole last) = d

@@ -13,3 +13,4 @@ pub mod LawWords
 pub mod LawLines
 pub mod LawSymbols
 pub mod LawPieces
+pub mod LawTexts
