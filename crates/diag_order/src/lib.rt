@@ -12,3 +12,6 @@ mod sorting;
 pub use line::{Diag, Line};
 pub use place::line_col;
 pub use sorting::sorted;
+
+#[cfg(test)]
+mod tests;

@@ -39,7 +39,12 @@ impl Ord for Line {
             .cmp(&other.path)
             .then(self.line.cmp(&other.line))
             .then(self.col.cmp(&other.col))
-            .then(self.code.name().as_bytes().cmp(other.code.name().as_bytes()))
+            .then(
+                self.code
+                    .name()
+                    .as_bytes()
+                    .cmp(other.code.name().as_bytes()),
+            )
             .then(self.text.as_slice().cmp(other.text.as_slice()))
     }
 }

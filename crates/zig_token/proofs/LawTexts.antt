@@ -1,6 +1,7 @@
 -- A whole text: it has one outcome by the relation, and the function on lists answers it.
 use Rattle.std.proofs.Common.{◌≡◌, ◌≢◌, ℕ, zero, suc, ◌+◌, ◌-◌, ◌<◌, ◌≤◌, Bool, true, false, not, cond, List, [], ◌∷◌, length, get_or, take, drop, Option, Some, None, Result, Ok, Err, refl, sym, ap, subst, ◌∙◌, ◌⊎◌, inl, inr, arith, eqb, ◌&&◌}
-use Rattle.std.specs.Prelude.{slice_range}
+use Rattle.std.specs.Prelude.{slice_range, IfOk, IfErr}
+use Rattle.std.specs.Global.{Vec}
 use Rattle.std.proofs.lemmas.Bool.{cases_Bool, cases_lt, cases_eq, ne_eqb, eqb-true, and_parts, cond_both}
 use Rattle.std.proofs.lemmas.List.{drop_all}
 use Rattle.zig_tree.specs.declared.token.TokenKind.{TokenKind}
@@ -11,10 +12,11 @@ use Rattle.zig_tree.specs.TokenTables.{symbols, word_kind, row_at_front}
 use Rattle.zig_tree.specs.Tokens as rel
 use Rattle.zig_tree.specs.Tokens.{Fault, bad_byte, bad_number, Run, none, more, IsChar, IsSeparator, IsName, name, IsSymbol, IsToken, BeginsNothing, Shows, IsLongest, then_read, ReadsFrom, ended, shown, token, Reads}
 use Rattle.zig_token.specs.declared.fault.LexFault.{LexFault}
-use Rattle.zig_token.specs.declared.fault.LexFault.TheVariants.{BadByte}
+use Rattle.zig_token.specs.declared.fault.LexFault.TheVariants.{BadByte, BadEscape, OpenString, BadNumber, OutOfMemory}
 use Rattle.zig_token.specs.declared.piece.Piece.{Piece}
 use Rattle.zig_token.specs.declared.piece.Piece.TheVariants as pieces
-use Rattle.zig_token.specs.Scan.{◌>>=◌, as_token, name_end, piece_at, tokens_from, tokens_of, token_from}
+use Rattle.zig_token.specs.Scan.{◌>>=◌, as_token, name_end, piece_at, tokens_from, tokens_of, token_from, Gives}
+use Rattle.zig_token.specs.Answer.{ShowsFirst, Answers}
 use Rattle.zig_token.proofs.Skips.{within_text, passed, here}
 use Rattle.zig_token.proofs.Lines.{begins_fits}
 use Rattle.zig_token.proofs.Reading.{text_done}
@@ -339,3 +341,24 @@ pub told_reads : (text : List ℕ) (outcome : Result (List Token) Fault) → tok
 told_reads text outcome e =
     let found = outcome_some text in
     subst (λ o. Reads text o) (told_back found.0 outcome (sym (outcome_told text found.0 found.1) ∙ e)) found.1
+
+-- ---- what a call answers
+pub call_found : (text : List ℕ) (answer : Result (Vec Token) LexFault) → Gives answer (tokens_of text) → IfOk answer (λ list. Reads text (Ok list.items))
+call_found text (Ok list) e = told_reads text (Ok list.items) e
+call_found text (Err fault) e = tt
+
+pub call_fault : (text : List ℕ) (answer : Result (Vec Token) LexFault) → Gives answer (tokens_of text) → IfErr answer (ShowsFirst text)
+call_fault text (Ok list) e = tt
+call_fault text (Err (BadByte at)) e = told_reads text (Err (bad_byte at)) e
+call_fault text (Err (BadEscape at)) e = told_reads text (Err (rel.bad_escape at)) e
+call_fault text (Err (OpenString at)) e = told_reads text (Err (rel.open_string at)) e
+call_fault text (Err (BadNumber at)) e = told_reads text (Err (bad_number at)) e
+call_fault text (Err OutOfMemory) e = tt
+
+pub call_only : (text : List ℕ) (answer : Result (Vec Token) LexFault) → Gives answer (tokens_of text) → (outcome : Result (List Token) Fault) → Reads text outcome → Answers answer outcome
+call_only text (Ok list) e outcome r = told_back outcome (Ok list.items) (sym (outcome_told text outcome r) ∙ e)
+call_only text (Err (BadByte at)) e outcome r = told_back outcome (Err (bad_byte at)) (sym (outcome_told text outcome r) ∙ e)
+call_only text (Err (BadEscape at)) e outcome r = told_back outcome (Err (rel.bad_escape at)) (sym (outcome_told text outcome r) ∙ e)
+call_only text (Err (OpenString at)) e outcome r = told_back outcome (Err (rel.open_string at)) (sym (outcome_told text outcome r) ∙ e)
+call_only text (Err (BadNumber at)) e outcome r = told_back outcome (Err (bad_number at)) (sym (outcome_told text outcome r) ∙ e)
+call_only text (Err OutOfMemory) e outcome r = tt

@@ -12,6 +12,7 @@ use Rattle.zig_token.specs.Scan.{name_from, name_end, number_end}
 use Rattle.zig_token.proofs.Skips.{within_text}
 use Rattle.zig_token.proofs.Words.{name_further, name_ends, name_done}
 use Rattle.zig_token.proofs.Pieces.{name_from_after, digit_begun}
+use Rattle.zig_token.proofs.LawNumbers.{integer_tested, integer_means}
 use Rattle.zig_token.proofs.Runs.{run_passes, run_rises, run_stops}
 
 name_some : (b : ℕ) → is_name_byte b ≡ true → 0 < b
@@ -70,7 +71,7 @@ number_ends_at text a b (number d lt run whole ends) = name_exact text a b run e
 
 pub number_read : (text : List ℕ) (a b : ℕ) → IsNumber text a b → number_end text a ≡ Ok b
 unfolding number_end
-number_read text a b (number d lt run whole ends) = rw (name_exact text a b run ends.0, whole, ends.1) refl
+number_read text a b (number d lt run whole ends) = rw (name_exact text a b run ends.0, integer_tested (slice_range text a b) whole, ends.1) refl
 
 -- what is tested behind the digits
 number_test : List ℕ → ℕ → Bool
@@ -81,11 +82,11 @@ unfolding number_test
 number_tested text a d lt h =
     let n = name_means text a (omega arith) in
     let p = and_parts _ _ h in
-    number d (digit_begun text a lt d) n.run p.0 (n.stops, not-true _ p.1)
+    number d (digit_begun text a lt d) n.run (integer_means (slice_range text a (name_end text a)) p.0) (n.stops, not-true _ p.1)
 
 number_tests : (text : List ℕ) (a b : ℕ) → IsNumber text a b → number_test text a ≡ true
 unfolding number_test
-number_tests text a b (number d lt run whole ends) = rw (name_exact text a b run ends.0, whole, ends.1) refl
+number_tests text a b (number d lt run whole ends) = rw (name_exact text a b run ends.0, integer_tested (slice_range text a b) whole, ends.1) refl
 
 digit_within : (text : List ℕ) (a : ℕ) → is_digit (get_or text a 0) ≡ true → a < length text
 unfolding is_name_byte

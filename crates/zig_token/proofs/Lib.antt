@@ -14,3 +14,4 @@ pub mod LawLines
 pub mod LawSymbols
 pub mod LawPieces
 pub mod LawTexts
+pub mod LawNumbers

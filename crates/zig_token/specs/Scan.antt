@@ -211,10 +211,10 @@ unfoldable pub tokens_of : List ℕ → Result (List Token) LexFault
 tokens_of text = tokens_from text (text_start text) 0 (drop (text_start text) text)
 
 -- what a call answers is what reading gives, unless memory runs out
-abbrev pub Answers : Result (Vec Token) LexFault → Result (List Token) LexFault → Type 0
-Answers (Ok list) read = read ≡ Ok list.items
-Answers (Err OutOfMemory) read = Unit {0}
-Answers (Err (BadByte at)) read = read ≡ Err (BadByte at)
-Answers (Err (BadEscape at)) read = read ≡ Err (BadEscape at)
-Answers (Err (OpenString at)) read = read ≡ Err (OpenString at)
-Answers (Err (BadNumber at)) read = read ≡ Err (BadNumber at)
+abbrev pub Gives : Result (Vec Token) LexFault → Result (List Token) LexFault → Type 0
+Gives (Ok list) read = read ≡ Ok list.items
+Gives (Err OutOfMemory) read = Unit {0}
+Gives (Err (BadByte at)) read = read ≡ Err (BadByte at)
+Gives (Err (BadEscape at)) read = read ≡ Err (BadEscape at)
+Gives (Err (OpenString at)) read = read ≡ Err (OpenString at)
+Gives (Err (BadNumber at)) read = read ≡ Err (BadNumber at)

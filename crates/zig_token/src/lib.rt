@@ -12,7 +12,7 @@ mod utf8;
 mod word;
 
 pub use fault::LexFault;
-pub use scan::tokens;
+pub use scan::{one_outcome, some_outcome, tokens};
 
 #[cfg(test)]
 mod tests;

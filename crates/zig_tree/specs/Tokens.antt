@@ -5,7 +5,7 @@ use Rattle.zig_tree.specs.declared.token.TokenKind.{TokenKind}
 use Rattle.zig_tree.specs.declared.token.TokenKind.TheVariants.{Identifier, Builtin, Integer, Char, Str, MultilineStr, End}
 use Rattle.zig_tree.specs.declared.token.Token.{Token}
 use Rattle.zig_tree.specs.TokenBytes.{is_within, is_digit, is_name_start, is_name_byte, is_hex_digit, digit_value, is_blank, ends_line, char_len, begins, is_escaped, text_start}
-use Rattle.zig_tree.specs.TokenNumbers.{is_integer}
+use Rattle.zig_tree.specs.TokenNumbers.{IsInteger}
 use Rattle.zig_tree.specs.TokenTables.{Row, symbols, word_kind}
 
 -- what is wrong with a text, with its place
@@ -117,7 +117,7 @@ abbrev pub EndsNumber : List ℕ → ℕ → Type 0
 EndsNumber text b = (is_name_byte (slice_index text b) ≡ false) × ((slice_index text b == 46 && is_digit (slice_index text (b + 1))) ≡ false)
 
 pub data IsNumber (text : List ℕ) : ℕ → ℕ → Type 0 where
-  number : {a b : ℕ} → is_digit (slice_index text a) ≡ true → a < b → Run (IsNameByte text) a b → is_integer (slice_range text a b) ≡ true → EndsNumber text b → IsNumber text a b
+  number : {a b : ℕ} → is_digit (slice_index text a) ≡ true → a < b → Run (IsNameByte text) a b → IsInteger (slice_range text a b) → EndsNumber text b → IsNumber text a b
 
 -- spaces and TABs
 pub data IsSpace (text : List ℕ) : ℕ → ℕ → Type 0 where

@@ -15,7 +15,7 @@ loop-diag-preserved c =
     let popped : c.loop-diag.list.items ≡ rest ++ d ∷ [] = c.in-Some.ensures.items in
     let is_place = c.place_in-last.ensures.place in
     let made : c.line_at.result ≡ line_of texts d =
-        c.line_at.ensures ∙ placed_so texts d text at.line at.col c.place_in-last.ensures.file (is_place.line ∙ ap (line_at text) c.place_in-last.ensures.offset) (is_place.col ∙ ap (col_at text) c.place_in-last.ensures.offset) in
+    c.line_at.ensures ∙ placed_so texts d text at.line at.col c.place_in-last.ensures.file (is_place.line ∙ ap (line_at text) c.place_in-last.ensures.offset) (is_place.col ∙ ap (col_at text) c.place_in-last.ensures.offset) in
     let pushed : c.push.new.self.items ≡ lines ++ line_of texts d ∷ [] = c.in_ok-push.ensures.items ∙ ap (λ l. lines ++ l ∷ []) made in
     record {
       done = rw pushed (pop_placed texts lines (map (line_of texts) (reverse c.args.list.items)) c.loop-diag.list.items rest d popped c.loop-diag.invariant.done);
