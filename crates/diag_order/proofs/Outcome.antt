@@ -1,10 +1,10 @@
 -- Sorted lines without repeats: which they are, and that they rise.
-use Rattle.std.proofs.Common.{◌≡◌, ℕ, Bool, true, false, List, map, reverse, refl, sym, ap, subst, ◌∙◌, ◌↔◌}
-use Rattle.std.specs.Prelude.{Contains, nat_eq}
+use Rattle.std.proofs.Common.{◌≡◌, ℕ, true, List, map, reverse, refl, sym, subst, ◌∙◌, ◌↔◌}
+use Rattle.std.specs.Prelude.{Contains}
 use Rattle.std.specs.List.{dedup}
 use Rattle.std.specs.List.Sorted.{IsPermutation, IsSorted, IsStrictlySortedBy}
 use Rattle.std.specs.Cmp.{eq_by_cmp_equiv, unsigned_ties}
-use Rattle.std.specs.Cmp.Lexicographic.{slice_cmp, texts_ties}
+use Rattle.std.specs.Cmp.Lexicographic.{texts_ties}
 use Rattle.std.specs.declared.cmp.Ordering.{Ordering}
 use Rattle.std.specs.declared.cmp.Ordering.TheVariants.{Less, Equal, Greater}
 use Rattle.std.specs.Ordering.{nat_cmp, ordering_then, is_eq}

@@ -1,9 +1,9 @@
 -- A column is at most one more than the byte's number.
-use Rattle.std.proofs.Common.{◌≡◌, ℕ, ◌+◌, ◌≤◌, Bool, not, List, [], ◌∷◌, length, take, cond, arith, reverse}
-use Rattle.std.specs.List.{suffix_len, prefix_len}
+use Rattle.std.proofs.Common.{ℕ, ◌+◌, ◌≤◌, Bool, not, List, [], ◌∷◌, length, take, arith, reverse}
+use Rattle.std.specs.List.{prefix_len}
 use Rattle.std.proofs.lemmas.Bool.{cond_both}
 use Rattle.std.proofs.lemmas.List.{length-reverse, length-take}
-use Rattle.diag_order.specs.Places.{is_line_end, line_at, col_at}
+use Rattle.diag_order.specs.Places.{is_line_end, col_at}
 
 prefix_short : (p : ℕ → Bool) (xs : List ℕ) → prefix_len p xs ≤ length xs
 prefix_short p [] = omega arith

@@ -1,11 +1,9 @@
 -- The order of lines is total.
-use Rattle.std.proofs.Common.{◌≡◌}
 use Rattle.std.specs.Cmp.{IsTotalOrder, nat_cmp_total, on_total, then_total}
-use Rattle.std.specs.Ordering.{nat_cmp, then_cmp, on}
-use Rattle.std.specs.Cmp.Lexicographic.{slice_cmp, nat_list_cmp_total}
+use Rattle.std.specs.Cmp.Lexicographic.{nat_list_cmp_total}
 use Rattle.zw_base.specs.DiagCode.{code_name}
 use Rattle.diag_order.specs.declared.line.Line.{Line}
-use Rattle.diag_order.specs.Order.{bytes_cmp, line_cmp}
+use Rattle.diag_order.specs.Order.{line_cmp}
 
 pub line_cmp_total : IsTotalOrder line_cmp
 line_cmp_total =

@@ -1,5 +1,5 @@
 -- Where a byte of a text stands: its line and column, counted from 1.
-use Rattle.std.specs.Prelude.{◌≡◌, ℕ, ◌+◌, ◌≤◌, Bool, not, ◌==◌, List, length, take, count_by}
+use Rattle.std.specs.Prelude.{ℕ, ◌+◌, Bool, not, ◌==◌, List, take, count_by}
 use Rattle.std.specs.List.{suffix_len}
 
 abbrev pub is_line_end : ℕ → Bool

@@ -83,9 +83,9 @@ char_or_stop text a =
     elim (cases_Bool (ends_line text a)) [
       | inl e ↦ inr (ends e)
       | inr unended ↦ elim (cases_lt 0 (char_len text a)) [
-          | inl some ↦ let c : IsChar text a (a + char_len text a) = char some refl in let r = char_rises text a (a + char_len text a) c in inl (a + char_len text a, c, r.0, r.1)
-          | inr none ↦ inr (wrong (unended, omega arith))
-        ]
+        | inl some ↦ let c : IsChar text a (a + char_len text a) = char some refl in let r = char_rises text a (a + char_len text a) c in inl (a + char_len text a, c, r.0, r.1)
+        | inr none ↦ inr (wrong (unended, omega arith))
+      ]
     ]
 
 pub line_means : (text : List ℕ) (a : ℕ) → a ≤ length text → (m : ℕ) × Run (IsChar text) a m × (m ≤ length text) × LineStop text m

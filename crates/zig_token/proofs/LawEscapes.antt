@@ -80,10 +80,10 @@ break_read text a w (too_large {v = v} slash u brace d le h big) =
     rw (u, u_not_escaped, brace, one) refl
 break_read text a w (no_close {v = v} slash u brace d le h open_here) =
     let stop : code_from v (ltb (a + 3) w) w (drop w text) ≡ Wrong w =
-        elim (cases_lt w (length text)) [
-          | inl lt ↦ code_open text w v (ltb (a + 3) w) lt h (closes_or text (a + 3) w v open_here)
-          | inr past ↦ code_done text w v (ltb (a + 3) w) past
-        ] in
+    elim (cases_lt w (length text)) [
+      | inl lt ↦ code_open text w v (ltb (a + 3) w) lt h (closes_or text (a + 3) w v open_here)
+      | inr past ↦ code_done text w v (ltb (a + 3) w) past
+    ] in
     rw (u, u_not_escaped, brace, value_read text d le ∙ stop) refl
 
 -- at each backslash there is an escape, or a byte with which none begins
@@ -107,9 +107,9 @@ module _ (text : List ℕ) (a : ℕ) (slash : get_or text a 0 ≡ 92) (u : get_o
   code_outcome (suc n) m v far d le =
       elim (cases_Bool (is_hex_digit (get_or text m 0))) [
         | inl h ↦ elim (cases_lt 0x10FFFF (16 * v + digit_value (get_or text m 0))) [
-            | inl big ↦ inr (m, too_large slash u brace d le h big)
-            | inr small ↦ code_outcome n (m + 1) (16 * v + digit_value (get_or text m 0)) (omega arith) (digit d h refl refl) small
-          ]
+          | inl big ↦ inr (m, too_large slash u brace d le h big)
+          | inr small ↦ code_outcome n (m + 1) (16 * v + digit_value (get_or text m 0)) (omega arith) (digit d h refl refl) small
+        ]
         | inr h ↦ code_stop m v d le h
       ]
 
@@ -125,15 +125,15 @@ escape_outcome text a slash =
     elim (cases_Bool (is_escaped (get_or text (a + 1) 0))) [
       | inl h ↦ inl (a + 2, letter slash h refl)
       | inr h ↦ elim (cases_eq (get_or text (a + 1) 0) 120) [
-          | inl x ↦ pair_outcome text a slash x
-          | inr not_x ↦ elim (cases_eq (get_or text (a + 1) 0) 117) [
-              | inl u ↦ elim (cases_eq (get_or text (a + 2) 0) 123) [
-                  | inl brace ↦ code_outcome text a slash u brace (length text) (a + 3) 0 (omega arith) nothing (omega arith)
-                  | inr no_open ↦ inr (a + 2, no_brace slash u no_open refl)
-                ]
-              | inr not_u ↦ inr (a + 1, no_letter slash h not_x not_u refl)
-            ]
+        | inl x ↦ pair_outcome text a slash x
+        | inr not_x ↦ elim (cases_eq (get_or text (a + 1) 0) 117) [
+          | inl u ↦ elim (cases_eq (get_or text (a + 2) 0) 123) [
+            | inl brace ↦ code_outcome text a slash u brace (length text) (a + 3) 0 (omega arith) nothing (omega arith)
+            | inr no_open ↦ inr (a + 2, no_brace slash u no_open refl)
+          ]
+          | inr not_u ↦ inr (a + 1, no_letter slash h not_x not_u refl)
         ]
+      ]
     ]
 
 -- an escape lies within the text, as its last byte does

@@ -151,11 +151,12 @@ lines_or_stop text a =
     at_line_end e =
         elim (cases_lt a (length text)) [
           | inl lt ↦ elim (join_or_none text a e lt) [
-              | inl found ↦ let r = join_rises text a found.0 found.1 in inl (found.0, rel.join found.1, r.0, r.1)
-              | inr none_here ↦ inr (last_line e (none_no_join text a none_here))
-            ]
+            | inl found ↦ let r = join_rises text a found.0 found.1 in inl (found.0, rel.join found.1, r.0, r.1)
+            | inr none_here ↦ inr (last_line e (none_no_join text a none_here))
+          ]
           | inr past ↦ inr (last_line e (past_no_join text a past))
         ]
+
     at_stop : LineStop text a → ((b : ℕ) × IsLineItem text a b × (a < b) × (b ≤ length text)) ⊎ LinesStop text a
     at_stop (ends e) = at_line_end e
     at_stop (wrong w) = inr (wrong_byte w)

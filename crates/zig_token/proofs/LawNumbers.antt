@@ -105,12 +105,12 @@ zero_means (c ∷ ds) h =
     elim (cases_eq c 120) [
       | inl x ↦ let f = digits_mean 16 ds (rw x at h) in subst (λ n. IsInteger (48 ∷ n ∷ ds)) (sym x) (rel.hexadecimal f.0 f.1)
       | inr no_x ↦ let h1 = rw (ne_eqb c 120 no_x) at h in elim (cases_eq c 111) [
-          | inl o ↦ let f = digits_mean 8 ds (rw o at h) in subst (λ n. IsInteger (48 ∷ n ∷ ds)) (sym o) (rel.octal f.0 f.1)
-          | inr no_o ↦ let h2 = rw (ne_eqb c 111 no_o) at h1 in elim (cases_eq c 98) [
-              | inl b ↦ let f = digits_mean 2 ds (rw b at h) in subst (λ n. IsInteger (48 ∷ n ∷ ds)) (sym b) (rel.binary f.0 f.1)
-              | inr no_b ↦ let h3 = rw (ne_eqb c 98 no_b) at h2 in let e = eqb-true (length (48 ∷ c ∷ ds)) 1 h3 in absurd (omega arith)
-            ]
+        | inl o ↦ let f = digits_mean 8 ds (rw o at h) in subst (λ n. IsInteger (48 ∷ n ∷ ds)) (sym o) (rel.octal f.0 f.1)
+        | inr no_o ↦ let h2 = rw (ne_eqb c 111 no_o) at h1 in elim (cases_eq c 98) [
+          | inl b ↦ let f = digits_mean 2 ds (rw b at h) in subst (λ n. IsInteger (48 ∷ n ∷ ds)) (sym b) (rel.binary f.0 f.1)
+          | inr no_b ↦ let h3 = rw (ne_eqb c 98 no_b) at h2 in let e = eqb-true (length (48 ∷ c ∷ ds)) 1 h3 in absurd (omega arith)
         ]
+      ]
     ]
 
 first_means : (b : ℕ) (rest : List ℕ) → b ≢ 48 → is_integer (b ∷ rest) ≡ true → IsInteger (b ∷ rest)

@@ -76,9 +76,9 @@ name_range b h =
     elim (or_cases _ _ h) [
       | inl upper ↦ let p = and_parts _ _ upper in let lo = leb-true 65 b p.0 in let hi = leb-true b 90 p.1 in (lo, omega arith, λ e. omega arith)
       | inr other ↦ elim (or_cases _ _ other) [
-          | inl lower ↦ let p = and_parts _ _ lower in let lo = leb-true 97 b p.0 in let hi = leb-true b 122 p.1 in (omega arith, hi, λ e. omega arith)
-          | inr bar ↦ let at_bar = eqb-true b 95 bar in (omega arith, omega arith, λ slash. omega arith)
-        ]
+        | inl lower ↦ let p = and_parts _ _ lower in let lo = leb-true 97 b p.0 in let hi = leb-true b 122 p.1 in (omega arith, hi, λ e. omega arith)
+        | inr bar ↦ let at_bar = eqb-true b 95 bar in (omega arith, omega arith, λ slash. omega arith)
+      ]
     ]
 
 digit_plain : (text : List ℕ) (a : ℕ) → is_digit (get_or text a 0) ≡ true → Plain text a

@@ -119,15 +119,15 @@ item_or_stop text a =
     elim (cases_eq (get_or text a 0) 34) [
       | inl quote ↦ inr (closed quote)
       | inr inside ↦ elim (cases_eq (get_or text a 0) 92) [
-          | inl slash ↦ elim (escape_outcome text a slash) [
-              | inl found ↦ let r = escape_rises text a found.0 found.1 in inl (found.0, rel.escape found.1, r.0, r.1)
-              | inr found ↦ inr (broken found.0 found.1)
-            ]
-          | inr plain ↦ elim (char_or_stop text a) [
-              | inl found ↦ inl (found.0, rel.char inside plain found.1, found.2, found.3)
-              | inr stop ↦ inr (stopped stop)
-            ]
+        | inl slash ↦ elim (escape_outcome text a slash) [
+          | inl found ↦ let r = escape_rises text a found.0 found.1 in inl (found.0, rel.escape found.1, r.0, r.1)
+          | inr found ↦ inr (broken found.0 found.1)
         ]
+        | inr plain ↦ elim (char_or_stop text a) [
+          | inl found ↦ inl (found.0, rel.char inside plain found.1, found.2, found.3)
+          | inr stop ↦ inr (stopped stop)
+        ]
+      ]
     ]
 
 pub string_outcome : (text : List ℕ) (q : ℕ) → get_or text q 0 ≡ 34 → ((b : ℕ) × IsString text q b) ⊎ ((fault : Fault) × StringFault text q fault)
@@ -200,9 +200,9 @@ after_break text q w breaks =
     elim (cases_Bool (ends_line text w)) [
       | inl e ↦ inr (open_string q, rel.open_escape breaks e)
       | inr e ↦ elim (cases_Bool (is_within 32 126 (get_or text w 0))) [
-          | inl p ↦ inr (bad_escape (q + 1), rel.wrong_escape breaks e p)
-          | inr p ↦ inr (bad_byte w, rel.wrong_byte breaks e p)
-        ]
+        | inl p ↦ inr (bad_escape (q + 1), rel.wrong_escape breaks e p)
+        | inr p ↦ inr (bad_byte w, rel.wrong_byte breaks e p)
+      ]
     ]
 
 pub literal_outcome : (text : List ℕ) (q : ℕ) → get_or text q 0 ≡ 39 → ((b : ℕ) × IsLiteral text q b) ⊎ ((fault : Fault) × LiteralFault text q fault)
@@ -210,13 +210,13 @@ unfolding LiteralOutcome
 literal_outcome text q opened =
     elim (cases_eq (get_or text (q + 1) 0) 92) [
       | inl slash ↦ elim (escape_outcome text (q + 1) slash) [
-          | inl found ↦ after_item text q found.0 opened (rel.escape found.1)
-          | inr found ↦ after_break text q found.0 found.1
-        ]
+        | inl found ↦ after_item text q found.0 opened (rel.escape found.1)
+        | inr found ↦ after_break text q found.0 found.1
+      ]
       | inr plain ↦ elim (cases_Bool (is_within 32 126 (get_or text (q + 1) 0) && not (eqb (get_or text (q + 1) 0) 39))) [
-          | inl fits ↦ let p = and_parts _ _ fits in after_item text q (q + 2) opened (rel.byte p.0 (eqb-false _ 39 (not-true _ p.1)) plain (omega arith))
-          | inr other ↦ let f = char_misfit_some text q (q + 1) in inr (f.0, rel.no_item plain other f.1)
-        ]
+        | inl fits ↦ let p = and_parts _ _ fits in after_item text q (q + 2) opened (rel.byte p.0 (eqb-false _ 39 (not-true _ p.1)) plain (omega arith))
+        | inr other ↦ let f = char_misfit_some text q (q + 1) in inr (f.0, rel.no_item plain other f.1)
+      ]
     ]
 
 pub literal_rises : (text : List ℕ) (q b : ℕ) → IsLiteral text q b → (q < b) × (b ≤ length text)

@@ -59,6 +59,7 @@ front_longest (first ∷ rows) bytes row h there stands =
     here_longest same (inr later) =
         let lt = later_shorter first row bytes (true_stands first bytes same) stands (not-true _ (row_passes (λ (r : Row). not (starts_with nat_eq r.0 first.0)) rows row (and_parts _ _ h).0 later)) in
         (omega arith, λ e. absurd (omega arith))
+
     on : (IsRow rows row → Longest bytes (row_at_front rows bytes) row) → starts_with nat_eq bytes first.0 ≡ false → (first ≡ row) ⊎ IsRow rows row → Longest bytes (row_at_front rows bytes) row
     on rest_longest other (inl e) = absurd (true≢false (sym (stands_true first bytes (subst (λ (r : Row). Stands r bytes) (sym e) stands)) ∙ other))
     on rest_longest other (inr later) = rest_longest later

@@ -132,9 +132,9 @@ module _ (text : List ℕ) (a : ℕ) where
       elim (cases_eq (get_or text (a + 2) 0) 34) [
         | inl second ↦ wrong_here (bad_byte a) (rel.empty_name at quote second)
         | inr other ↦ elim (string_outcome text (a + 1) quote) [
-            | inl found ↦ whole Identifier found.0 (rel.quoted_name at other found.1) (quoted_piece text a at quote other ∙ ap (as_token Identifier) (string_read text (a + 1) found.0 found.1))
-            | inr found ↦ wrong_here found.0 (rel.in_name at quote other found.1)
-          ]
+          | inl found ↦ whole Identifier found.0 (rel.quoted_name at other found.1) (quoted_piece text a at quote other ∙ ap (as_token Identifier) (string_read text (a + 1) found.0 found.1))
+          | inr found ↦ wrong_here found.0 (rel.in_name at quote other found.1)
+        ]
       ]
 
   at_stands : get_or text a 0 ≡ 64 → Stands text a
@@ -142,12 +142,12 @@ module _ (text : List ℕ) (a : ℕ) where
       elim (cases_eq (get_or text (a + 1) 0) 34) [
         | inl quote ↦ quoted_stands at quote
         | inr other ↦ elim (cases_Bool (is_name_start (get_or text (a + 1) 0))) [
-            | inl n ↦
-                let r = name_range (get_or text (a + 1) 0) n in
-                let lt = within_text text (a + 1) (omega arith) in
-                whole Builtin (name_end text (a + 1)) (rel.builtin at (name n (name_begun text (a + 1) lt n) (name_means text (a + 1) (omega arith)).run)) (builtin_piece text a at n)
-            | inr n ↦ wrong_here (bad_byte a) (rel.lone_at at other n)
-          ]
+          | inl n ↦
+              let r = name_range (get_or text (a + 1) 0) n in
+              let lt = within_text text (a + 1) (omega arith) in
+              whole Builtin (name_end text (a + 1)) (rel.builtin at (name n (name_begun text (a + 1) lt n) (name_means text (a + 1) (omega arith)).run)) (builtin_piece text a at n)
+          | inr n ↦ wrong_here (bad_byte a) (rel.lone_at at other n)
+        ]
       ]
 
   name_stands : is_name_start (get_or text a 0) ≡ true → Stands text a
@@ -159,7 +159,14 @@ module _ (text : List ℕ) (a : ℕ) where
   symbol_stands : a < length text → Plain text a → get_or text a 0 ≢ 34 → get_or text a 0 ≢ 39 → get_or text a 0 ≢ 64 → is_digit (get_or text a 0) ≡ false → is_name_start (get_or text a 0) ≡ false → (o : Option (ℕ × TokenKind)) → row_at_front symbols (drop a text) ≡ o → Stands text a
   symbol_stands lt p string_no literal_no at_no d n None e =
       wrong_here (bad_byte a) (rel.no_piece lt (record {
-        blank = p.blank; line_end = p.line_end; comment = p.comment; lines = p.lines; quotes = (string_no, literal_no); at_sign = at_no; digit = d; name = n;
+        blank = p.blank;
+        line_end = p.line_end;
+        comment = p.comment;
+        lines = p.lines;
+        quotes = (string_no, literal_no);
+        at_sign = at_no;
+        digit = d;
+        name = n;
         symbol = λ b kind s. no_row kind b s;
       }))
     where
@@ -173,9 +180,9 @@ module _ (text : List ℕ) (a : ℕ) where
       elim (cases_Bool (is_digit (get_or text a 0))) [
         | inl d ↦ number_stands d
         | inr d ↦ elim (cases_Bool (is_name_start (get_or text a 0))) [
-            | inl n ↦ name_stands n
-            | inr n ↦ symbol_stands lt p string_no literal_no at_no d n (row_at_front symbols (drop a text)) refl
-          ]
+          | inl n ↦ name_stands n
+          | inr n ↦ symbol_stands lt p string_no literal_no at_no d n (row_at_front symbols (drop a text)) refl
+        ]
       ]
 
   token_stands : a < length text → is_blank (get_or text a 0) ≡ false → begins text a 13 10 ≡ false → begins text a 47 47 ≡ false → Stands text a
@@ -183,15 +190,15 @@ module _ (text : List ℕ) (a : ℕ) where
       elim (cases_eq (get_or text a 0) 34) [
         | inl quote ↦ string_stands quote
         | inr string_no ↦ elim (cases_eq (get_or text a 0) 39) [
-            | inl quote ↦ literal_stands quote
-            | inr literal_no ↦ elim (cases_Bool (begins text a 92 92)) [
-                | inl mark ↦ lines_stand mark
-                | inr no_lines ↦ elim (cases_eq (get_or text a 0) 64) [
-                    | inl at ↦ at_stands at
-                    | inr at_no ↦ word_stands lt (record { blank = blank; line_end = cr; comment = no_comment; string = ne_eqb _ 34 string_no; literal = ne_eqb _ 39 literal_no; lines = no_lines }) string_no literal_no at_no
-                  ]
-              ]
+          | inl quote ↦ literal_stands quote
+          | inr literal_no ↦ elim (cases_Bool (begins text a 92 92)) [
+            | inl mark ↦ lines_stand mark
+            | inr no_lines ↦ elim (cases_eq (get_or text a 0) 64) [
+              | inl at ↦ at_stands at
+              | inr at_no ↦ word_stands lt (record { blank = blank; line_end = cr; comment = no_comment; string = ne_eqb _ 34 string_no; literal = ne_eqb _ 39 literal_no; lines = no_lines }) string_no literal_no at_no
+            ]
           ]
+        ]
       ]
 
   stands_some : a < length text → Stands text a
@@ -199,9 +206,9 @@ module _ (text : List ℕ) (a : ℕ) where
       elim (cases_Bool (is_blank (get_or text a 0))) [
         | inl blank ↦ gap (a + 1) (rel.blank blank refl)
         | inr blank ↦ elim (cases_Bool (begins text a 13 10)) [
-            | inl cr ↦ gap (a + 2) (rel.line_end cr refl)
-            | inr cr ↦ elim (cases_Bool (begins text a 47 47)) [ inl mark ↦ comment_stands mark | inr no_comment ↦ token_stands lt blank cr no_comment ]
-          ]
+          | inl cr ↦ gap (a + 2) (rel.line_end cr refl)
+          | inr cr ↦ elim (cases_Bool (begins text a 47 47)) [ inl mark ↦ comment_stands mark | inr no_comment ↦ token_stands lt blank cr no_comment ]
+        ]
       ]
 
 -- ---- whole texts

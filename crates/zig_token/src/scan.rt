@@ -80,11 +80,9 @@ pub fn tokens(alloc: Global, text: &[u8]) -> Result<Vec<Token>, LexFault>
 /// A text has one list of tokens or one fault, and never both or two.
 pub fn one_outcome()
     ensures { (text : List ℕ) (x y : Result (List Token) Fault) → Reads text x → Reads text y → x ≡ y }
-{
-}
+{}
 
 /// Each text has a list of tokens or a fault.
 pub fn some_outcome()
     ensures { (text : List ℕ) → (outcome : Result (List Token) Fault) × Reads text outcome }
-{
-}
+{}

@@ -7,6 +7,7 @@ use zig_tree::TokenKind;
 type Row = (TokenKind, u32, u32);
 
 fn has_tokens(rt: &impl Abort, alloc: Global, text: &[u8], rows: &[Row]) {
+    assert!(rt; text.len() < 1000);
     match tokens(alloc, text) {
         Err(_) => panic!(rt; "{text:?} has a fault"),
         Ok(list) => {
@@ -21,6 +22,7 @@ fn has_tokens(rt: &impl Abort, alloc: Global, text: &[u8], rows: &[Row]) {
 }
 
 fn has_fault(rt: &impl Abort, alloc: Global, text: &[u8], fault: LexFault) {
+    assert!(rt; text.len() < 1000);
     match tokens(alloc, text) {
         Ok(_) => panic!(rt; "{text:?} has tokens"),
         Err(found) => assert_eq!(rt; found, fault, "{text:?}"),

@@ -1,4 +1,4 @@
-use Rattle.std.proofs.Common.{◌≡◌, ◌++◌, length, map, reverse, vec_len}
+use Rattle.std.proofs.Common.{◌≡◌, ◌++◌, map, reverse, vec_len}
 use Rattle.std.specs.Prelude.{All}
 use Rattle.diag_order.specs.Sorted.{line_of, IsInFile}
 use Rattle.diag_order.specs.Last.{last_text, IsPlace}
