@@ -1,13 +1,11 @@
 -- Characters, comments and lines: what the functions on lists answer is what the relation says.
-use Rattle.std.proofs.Common.{◌≡◌, ◌≢◌, ℕ, zero, suc, ◌+◌, ◌-◌, ◌<◌, ◌≤◌, Bool, true, false, List, length, get_or, drop, Result, Ok, Err, refl, sym, ap, subst, ◌∙◌, ◌⊎◌, inl, inr, arith, eqb, leb, ◌&&◌, ◌||◌}
-use Rattle.std.proofs.lemmas.Bool.{cases_Bool, cases_lt, cases_eq, or_cases, or_left, or_right, or_from, and_parts, and_from, leb-true, le-leb, eqb-true, eq-eqb, ne_eqb, false_from_ne_true}
+use Rattle.std.proofs.Common.{◌≡◌, ℕ, ◌+◌, ◌<◌, ◌≤◌, true, false, List, length, get_or, drop, Ok, Err, refl, sym, ap, ◌∙◌, ◌⊎◌, inl, inr, arith}
+use Rattle.std.proofs.lemmas.Bool.{cases_Bool, cases_lt, or_cases, or_left, and_parts, leb-true, le-leb, eqb-true, false_from_ne_true}
 use Rattle.std.proofs.lemmas.List.{get_or_past}
-use Rattle.zig_tree.specs.TokenBytes.{is_within, is_plain, is_two_bytes, is_three_bytes, is_four_bytes, char_len, ends_line, begins}
+use Rattle.zig_tree.specs.TokenBytes.{is_plain, is_two_bytes, is_three_bytes, is_four_bytes, char_len, ends_line}
 use Rattle.zig_tree.specs.Tokens.{Run, IsChar, char, IsWrong}
-use Rattle.zig_token.specs.declared.fault.LexFault.{LexFault}
 use Rattle.zig_token.specs.declared.fault.LexFault.TheVariants.{BadByte}
 use Rattle.zig_token.specs.Scan.{line_from, line_end}
-use Rattle.zig_token.proofs.Skips.{within_text}
 use Rattle.zig_token.proofs.Lines.{char_fits, line_ends, line_wrong, line_further, line_done}
 use Rattle.zig_token.proofs.Runs.{run_passes, run_stops}
 

@@ -1,9 +1,8 @@
 -- Escapes: what the functions on lists answer is what the relation says.
-use Rattle.std.proofs.Common.{◌≡◌, ◌≢◌, ℕ, zero, suc, ◌+◌, ◌-◌, ◌*◌, ◌<◌, ◌≤◌, Bool, true, false, not, cond, List, length, get_or, drop, refl, sym, ap, subst, ◌∙◌, ◌⊎◌, inl, inr, arith, eqb, leb, ltb, ◌&&◌, ◌||◌}
-use Rattle.std.proofs.lemmas.Bool.{cases_Bool, cases_lt, cases_eq, and_parts, and_from, and_cases, and_left, and_right, eqb-true, eqb-false, eq-eqb, ne_eqb, lt-ltb, le-ltb, ltb-true, not-true, not_from_false, cond_both, false_from_ne_true, false≢true}
+use Rattle.std.proofs.Common.{◌≡◌, ℕ, zero, suc, ◌+◌, ◌*◌, ◌<◌, ◌≤◌, true, false, List, length, get_or, drop, refl, sym, ap, subst, ◌∙◌, ◌⊎◌, inl, inr, arith, ltb}
+use Rattle.std.proofs.lemmas.Bool.{cases_Bool, cases_lt, cases_eq, and_parts, eqb-true, ne_eqb, lt-ltb, le-ltb, ltb-true, not-true, false_from_ne_true, false≢true}
 use Rattle.zig_tree.specs.TokenBytes.{is_within, is_digit, is_hex_digit, digit_value, is_escaped}
 use Rattle.zig_tree.specs.Tokens.{HasValue, nothing, digit, Closes, IsEscape, letter, pair, code, Breaks, no_letter, no_pair, half_pair, no_brace, too_large, no_close}
-use Rattle.zig_token.specs.declared.quoted.Escape.{Escape}
 use Rattle.zig_token.specs.declared.quoted.Escape.TheVariants.{Whole, Wrong}
 use Rattle.zig_token.specs.Scan.{hex_pair, closes_code, code_from, escape_at}
 use Rattle.zig_token.proofs.Skips.{within_text}

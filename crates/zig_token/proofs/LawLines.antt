@@ -1,11 +1,9 @@
 -- Strings of several lines: what the functions on lists answer is what the relation says.
-use Rattle.std.proofs.Common.{◌≡◌, ◌≢◌, ℕ, zero, suc, ◌+◌, ◌-◌, ◌<◌, ◌≤◌, Bool, true, false, not, cond, List, length, get_or, drop, Option, Some, None, Result, Ok, Err, refl, sym, ap, subst, ◌∙◌, ◌⊎◌, inl, inr, arith, eqb, ◌&&◌, ◌||◌}
-use Rattle.std.proofs.lemmas.Bool.{cases_Bool, cases_lt, or_cases, or_left, or_right, or_from, and_parts, eqb-true, eq-eqb, ne_eqb, leb-true}
-use Rattle.std.proofs.lemmas.List.{get_or_past}
-use Rattle.zig_tree.specs.TokenBytes.{char_len, ends_line, begins}
+use Rattle.std.proofs.Common.{◌≡◌, ℕ, ◌+◌, ◌<◌, ◌≤◌, Bool, true, false, cond, List, length, get_or, drop, Some, None, Ok, Err, refl, sym, ap, ◌∙◌, ◌⊎◌, inl, inr, arith, eqb, ◌||◌}
+use Rattle.std.proofs.lemmas.Bool.{cases_Bool, cases_lt, or_cases, or_left, or_right, and_parts, eqb-true, eq-eqb, leb-true}
+use Rattle.zig_tree.specs.TokenBytes.{ends_line, begins}
 use Rattle.zig_tree.specs.Tokens as rel
 use Rattle.zig_tree.specs.Tokens.{Run, IsChar, IsWrong, IsSpace, space, IsLineFeed, lf, cr_lf, IsJoin, join, IsLineItem, IsLines}
-use Rattle.zig_token.specs.declared.fault.LexFault.{LexFault}
 use Rattle.zig_token.specs.declared.fault.LexFault.TheVariants.{BadByte}
 use Rattle.zig_token.specs.Scan.{blanks_from, next_line, lines_from, lines_end}
 use Rattle.zig_token.proofs.Skips.{within_text, here}

@@ -1,6 +1,6 @@
 -- Whole numbers: the test on lists says what the cases say.
-use Rattle.std.proofs.Common.{◌≡◌, ◌≢◌, ℕ, zero, suc, ◌+◌, ◌*◌, ◌^◌, ◌<◌, ◌≤◌, Bool, true, false, not, cond, List, [], ◌∷◌, length, refl, sym, ap, subst, ◌∙◌, ◌⊎◌, inl, inr, arith, eqb, ltb, ◌&&◌}
-use Rattle.std.proofs.lemmas.Bool.{cases_Bool, cases_eq, and_parts, ne_eqb, eqb-true, eqb-false, ltb-true, lt-ltb, cond_both}
+use Rattle.std.proofs.Common.{◌≡◌, ◌≢◌, ℕ, ◌+◌, ◌*◌, ◌^◌, ◌<◌, ◌≤◌, Bool, true, false, List, [], ◌∷◌, length, refl, sym, ap, subst, ◌∙◌, inl, inr, arith, eqb, ltb, ◌&&◌}
+use Rattle.std.proofs.lemmas.Bool.{cases_eq, and_parts, ne_eqb, eqb-true, ltb-true, lt-ltb, cond_both}
 use Rattle.zig_tree.specs.TokenBytes.{is_digit, is_hex_digit, digit_value}
 use Rattle.zig_tree.specs.TokenNumbers as rel
 use Rattle.zig_tree.specs.TokenNumbers.{digits_fit, is_integer, IsDigitOf, AreDigits, last, next, parted, number_behind, IsSmall, IsInteger}

@@ -1,24 +1,20 @@
 -- What stands at a place: what the function on lists answers is what the relation says.
-use Rattle.std.proofs.Common.{◌≡◌, ◌≢◌, ℕ, zero, suc, ◌+◌, ◌-◌, ◌<◌, ◌≤◌, Bool, true, false, not, cond, List, length, get_or, take, drop, Option, Some, None, Result, Ok, Err, refl, sym, ap, subst, ◌∙◌, ◌⊎◌, inl, inr, arith, eqb, leb, ◌&&◌, ◌||◌}
+use Rattle.std.proofs.Common.{◌≡◌, ◌≢◌, ℕ, ◌+◌, ◌-◌, ◌<◌, ◌≤◌, true, false, cond, List, length, get_or, drop, Option, Some, None, Ok, Err, refl, ap, subst, ◌∙◌, inl, inr, arith, eqb}
 use Rattle.std.specs.Prelude.{slice_range}
-use Rattle.std.proofs.lemmas.Bool.{cases_Bool, cases_lt, cases_eq, and_parts, and_left, and_right, or_cases, ne_eqb, eqb-true, eqb-false, leb-true, lt-leb, false_from_ne_true}
+use Rattle.std.proofs.lemmas.Bool.{and_parts, and_left, and_right, or_cases, ne_eqb, eqb-true, leb-true, lt-leb}
 use Rattle.zig_tree.specs.declared.token.TokenKind.{TokenKind}
 use Rattle.zig_tree.specs.declared.token.TokenKind.TheVariants.{Identifier, Builtin, Integer, Char, Str, MultilineStr}
-use Rattle.zig_tree.specs.TokenBytes.{is_within, is_digit, is_name_start, is_name_byte, is_blank, ends_line, char_len, begins}
+use Rattle.zig_tree.specs.TokenBytes.{is_digit, is_name_start, is_blank, begins}
 use Rattle.zig_tree.specs.TokenTables.{symbols, word_kind, row_at_front}
 use Rattle.zig_tree.specs.Tokens as rel
 use Rattle.zig_tree.specs.Tokens.{Fault, bad_byte, bad_escape, open_string, bad_number, Run, IsChar, IsWrong, IsSeparator, IsString, string, IsName, name, IsNumber, IsLiteral, IsLines, IsSymbol, symbol, IsToken, BeginsNothing, Shows}
-use Rattle.zig_token.specs.declared.fault.LexFault.{LexFault}
-use Rattle.zig_token.specs.declared.fault.LexFault.TheVariants.{BadByte, BadNumber}
-use Rattle.zig_token.specs.declared.piece.Piece.{Piece}
+use Rattle.zig_token.specs.declared.fault.LexFault.TheVariants.{BadByte}
 use Rattle.zig_token.specs.declared.piece.Piece.TheVariants as pieces
 use Rattle.zig_token.specs.Scan.{◌>>=◌, as_token, line_end, lines_end, quoted_end, char_end, name_end, number_end, at_sign, symbol_at, word_or_symbol, token_at, piece_at}
-use Rattle.zig_token.proofs.Skips.{within_text}
-use Rattle.zig_token.proofs.Lines.{begins_fits}
-use Rattle.zig_token.proofs.LawChars.{line_ended, line_is_wrong, line_means, LineStop, ends, wrong}
-use Rattle.zig_token.proofs.LawQuotes.{lex_fault, string_read, string_fault_read, string_outcome, string_rises, literal_read, literal_fault_read, literal_outcome, literal_rises}
-use Rattle.zig_token.proofs.LawWords.{name_longest, name_means, number_read, number_outcome, no_number_read, number_rises}
-use Rattle.zig_token.proofs.LawLines.{lines_read, lines_fault_read, lines_outcome, lines_rises}
+use Rattle.zig_token.proofs.LawChars.{line_ended, line_is_wrong}
+use Rattle.zig_token.proofs.LawQuotes.{lex_fault, string_read, string_fault_read, literal_read, literal_fault_read}
+use Rattle.zig_token.proofs.LawWords.{name_longest, number_read, no_number_read}
+use Rattle.zig_token.proofs.LawLines.{lines_read, lines_fault_read}
 use Rattle.zig_token.proofs.LawSymbols.{Longest, HeadOnly, symbol_long, symbol_longest, symbol_length, symbol_head, symbol_found}
 
 -- ---- which byte begins what

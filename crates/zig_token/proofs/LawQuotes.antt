@@ -1,18 +1,17 @@
 -- Strings and character literals: what the functions on lists answer is what the relation says.
-use Rattle.std.proofs.Common.{◌≡◌, ◌≢◌, ℕ, zero, suc, ◌+◌, ◌-◌, ◌<◌, ◌≤◌, Bool, true, false, not, cond, List, length, get_or, drop, Result, Ok, Err, refl, sym, ap, subst, ◌∙◌, ◌⊎◌, inl, inr, arith, eqb, ◌&&◌}
-use Rattle.std.proofs.lemmas.Bool.{cases_Bool, cases_lt, cases_eq, and_parts, ne_eqb, eq-eqb, eqb-false, not-true, false_from_ne_true}
+use Rattle.std.proofs.Common.{◌≡◌, ◌≢◌, ℕ, ◌+◌, ◌<◌, ◌≤◌, true, false, not, List, length, get_or, drop, Ok, Err, refl, sym, ap, ◌∙◌, ◌⊎◌, inl, inr, arith, eqb, ◌&&◌}
+use Rattle.std.proofs.lemmas.Bool.{cases_Bool, cases_lt, cases_eq, and_parts, ne_eqb, eqb-false, not-true}
 use Rattle.zig_tree.specs.TokenBytes.{is_within, char_len, ends_line}
 use Rattle.zig_tree.specs.Tokens as rel
 use Rattle.zig_tree.specs.Tokens.{Fault, bad_byte, bad_escape, open_string, bad_number, Run, IsChar, IsWrong, IsEscape, Breaks, IsItem, IsString, string, Misfit, StringFault, IsCharItem, IsLiteral, CharMisfit, LiteralFault}
 use Rattle.zig_token.specs.declared.fault.LexFault.{LexFault}
 use Rattle.zig_token.specs.declared.fault.LexFault.TheVariants.{BadByte, BadEscape, OpenString, BadNumber}
-use Rattle.zig_token.specs.declared.quoted.Escape.TheVariants.{Whole, Wrong}
-use Rattle.zig_token.specs.Scan.{escape_at, escape_or, misfit, item_end, quoted_from, quoted_end, char_misfit, char_escape_misfit, char_item_end, char_end}
+use Rattle.zig_token.specs.Scan.{misfit, item_end, quoted_from, quoted_end, char_misfit, char_escape_misfit, char_item_end, char_end}
 use Rattle.zig_token.proofs.Skips.{within_text}
 use Rattle.zig_token.proofs.Quotes.{quoted_ends, quoted_wrong, quoted_further, quoted_done}
 use Rattle.zig_token.proofs.Runs.{run_passes, run_rises, run_stops}
-use Rattle.zig_token.proofs.LawChars.{char_within, char_unended, char_rises, within_unended, end_no_char, quote_char, slash_char, LineStop, ends, wrong, char_or_stop}
-use Rattle.zig_token.proofs.LawEscapes.{Outcome, escape_read, break_read, escape_outcome, escape_rises}
+use Rattle.zig_token.proofs.LawChars.{char_unended, char_rises, within_unended, end_no_char, quote_char, slash_char, LineStop, ends, wrong, char_or_stop}
+use Rattle.zig_token.proofs.LawEscapes.{escape_read, break_read, escape_outcome, escape_rises}
 
 -- a fault of the relation, as the call answers it
 abbrev pub lex_fault : Fault → LexFault

@@ -1,12 +1,12 @@
 -- Symbols: the first row that stands at a place is the longest symbol there.
-use Rattle.std.proofs.Common.{◌≡◌, ◌≢◌, ℕ, zero, suc, ◌+◌, ◌-◌, ◌<◌, ◌≤◌, Bool, true, false, not, cond, List, [], ◌∷◌, length, get_or, take, drop, Option, Some, None, refl, sym, ap, subst, ◌∙◌, ◌⊎◌, inl, inr, arith, eqb, ltb, ◌&&◌, ◌||◌}
+use Rattle.std.proofs.Common.{◌≡◌, ℕ, ◌+◌, ◌-◌, ◌<◌, ◌≤◌, Bool, true, false, not, cond, List, [], ◌∷◌, length, get_or, take, drop, Option, Some, None, refl, sym, ap, subst, ◌∙◌, ◌⊎◌, inl, inr, arith, eqb, ◌&&◌, ◌||◌}
 use Rattle.std.specs.Prelude.{nat_eq, slice_range, IfSome}
 use Rattle.std.specs.List.{starts_with, list_all}
-use Rattle.std.proofs.lemmas.Bool.{cases_Bool, cases_lt, and_parts, not-true, or_parts, ltb-true, false≢true, true≢false}
+use Rattle.std.proofs.lemmas.Bool.{cases_Bool, cases_lt, and_parts, not-true, or_parts, ltb-true, true≢false}
 use Rattle.std.proofs.lemmas.List.{length-take, length-drop, take-take, get_or-take, get_or-drop}
 use Rattle.std.proofs.lemmas.Slice.Eq.{bytes_eq-Decides}
 use Rattle.zig_tree.specs.declared.token.TokenKind.{TokenKind}
-use Rattle.zig_tree.specs.TokenBytes.{is_within, is_digit, is_name_start, is_blank, begins}
+use Rattle.zig_tree.specs.TokenBytes.{is_digit, is_name_start, is_blank, begins}
 use Rattle.zig_tree.specs.TokenTables.{Row, symbols, row_at_front}
 use Rattle.zig_tree.specs.Tokens.{IsRow, IsSymbol, symbol}
 use Rattle.zig_token.proofs.Pieces.{has_byte, symbols_fit}

@@ -1,5 +1,5 @@
 -- A whole text: it has one outcome by the relation, and the function on lists answers it.
-use Rattle.std.proofs.Common.{◌≡◌, ◌≢◌, ℕ, zero, suc, ◌+◌, ◌-◌, ◌<◌, ◌≤◌, Bool, true, false, not, cond, List, [], ◌∷◌, length, get_or, take, drop, Option, Some, None, Result, Ok, Err, refl, sym, ap, subst, ◌∙◌, ◌⊎◌, inl, inr, arith, eqb, ◌&&◌}
+use Rattle.std.proofs.Common.{◌≡◌, ◌≢◌, ℕ, zero, suc, ◌+◌, ◌-◌, ◌<◌, ◌≤◌, true, false, List, [], ◌∷◌, length, get_or, drop, Option, Some, None, Result, Ok, Err, refl, sym, ap, subst, ◌∙◌, inl, inr, arith, eqb, ◌&&◌}
 use Rattle.std.specs.Prelude.{slice_range, IfOk, IfErr}
 use Rattle.std.specs.Global.{Vec}
 use Rattle.std.proofs.lemmas.Bool.{cases_Bool, cases_lt, cases_eq, ne_eqb, eqb-true, and_parts, cond_both}
@@ -7,7 +7,7 @@ use Rattle.std.proofs.lemmas.List.{drop_all}
 use Rattle.zig_tree.specs.declared.token.TokenKind.{TokenKind}
 use Rattle.zig_tree.specs.declared.token.TokenKind.TheVariants.{Identifier, Builtin, Integer, Char, Str, MultilineStr, End}
 use Rattle.zig_tree.specs.declared.token.Token.{Token}
-use Rattle.zig_tree.specs.TokenBytes.{is_digit, is_name_start, is_blank, ends_line, char_len, begins, text_start}
+use Rattle.zig_tree.specs.TokenBytes.{is_digit, is_name_start, is_blank, begins, text_start}
 use Rattle.zig_tree.specs.TokenTables.{symbols, word_kind, row_at_front}
 use Rattle.zig_tree.specs.Tokens as rel
 use Rattle.zig_tree.specs.Tokens.{Fault, bad_byte, bad_number, Run, none, more, IsChar, IsSeparator, IsName, name, IsSymbol, IsToken, BeginsNothing, Shows, IsLongest, then_read, ReadsFrom, ended, shown, token, Reads}
@@ -19,14 +19,13 @@ use Rattle.zig_token.specs.Scan.{◌>>=◌, as_token, name_end, piece_at, tokens
 use Rattle.zig_token.specs.Answer.{ShowsFirst, Answers}
 use Rattle.zig_token.proofs.Skips.{within_text, passed, here}
 use Rattle.zig_token.proofs.Lines.{begins_fits}
-use Rattle.zig_token.proofs.Reading.{text_done}
 use Rattle.zig_token.proofs.LawChars.{char_rises, line_means, LineStop, ends, wrong}
 use Rattle.zig_token.proofs.LawQuotes.{lex_fault, string_read, string_outcome, string_rises, literal_read, literal_outcome, literal_rises}
 use Rattle.zig_token.proofs.LawWords.{name_longest, name_means, number_read, number_outcome, number_rises}
 use Rattle.zig_token.proofs.LawLines.{lines_read, lines_outcome, lines_rises}
 use Rattle.zig_token.proofs.LawSymbols.{symbol_long, symbol_found}
 use Rattle.zig_token.proofs.Runs.{run_passes}
-use Rattle.zig_token.proofs.LawPieces.{Plain, string_piece, literal_piece, lines_piece, digit_piece, quoted_piece, builtin_piece, symbol_absent, digit_range, name_range, name_piece, separator_read, Reaches, token_read, symbol_piece, symbol_some, shows_read, begins_first}
+use Rattle.zig_token.proofs.LawPieces.{Plain, string_piece, literal_piece, lines_piece, digit_piece, quoted_piece, builtin_piece, symbol_absent, digit_range, name_range, name_piece, separator_read, token_read, symbol_piece, symbol_some, shows_read}
 use Rattle.zig_token.proofs.Pieces.{name_begun}
 
 -- ---- pieces rise

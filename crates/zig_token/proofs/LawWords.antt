@@ -1,19 +1,18 @@
 -- Names and numbers: what the functions on lists answer is what the relation says.
-use Rattle.std.proofs.Common.{◌≡◌, ◌≢◌, ℕ, zero, suc, ◌+◌, ◌-◌, ◌<◌, ◌≤◌, Bool, true, false, not, cond, List, length, get_or, drop, Result, Ok, Err, refl, sym, ap, subst, ◌∙◌, ◌⊎◌, inl, inr, arith, eqb, ◌&&◌}
+use Rattle.std.proofs.Common.{◌≡◌, ℕ, zero, suc, ◌+◌, ◌<◌, ◌≤◌, Bool, true, false, not, List, length, get_or, drop, Ok, Err, refl, sym, ap, subst, ◌∙◌, ◌⊎◌, inl, inr, arith, eqb, ◌&&◌}
 use Rattle.std.specs.Prelude.{slice_range}
-use Rattle.std.proofs.lemmas.Bool.{cases_Bool, cases_lt, and_parts, and_from, not-true, not_from_false, false≢true, or_right}
-use Rattle.zig_tree.specs.TokenBytes.{is_within, is_digit, is_name_start, is_name_byte}
+use Rattle.std.proofs.lemmas.Bool.{cases_Bool, cases_lt, and_parts, not-true, false≢true, or_right}
+use Rattle.zig_tree.specs.TokenBytes.{is_digit, is_name_start, is_name_byte}
 use Rattle.zig_tree.specs.TokenNumbers.{is_integer}
 use Rattle.zig_tree.specs.Tokens as rel
 use Rattle.zig_tree.specs.Tokens.{Run, IsNameByte, IsName, name, EndsNumber, IsNumber, number}
-use Rattle.zig_token.specs.declared.fault.LexFault.{LexFault}
 use Rattle.zig_token.specs.declared.fault.LexFault.TheVariants.{BadNumber}
 use Rattle.zig_token.specs.Scan.{name_from, name_end, number_end}
 use Rattle.zig_token.proofs.Skips.{within_text}
 use Rattle.zig_token.proofs.Words.{name_further, name_ends, name_done}
 use Rattle.zig_token.proofs.Pieces.{name_from_after, digit_begun}
 use Rattle.zig_token.proofs.LawNumbers.{integer_tested, integer_means}
-use Rattle.zig_token.proofs.Runs.{run_passes, run_rises, run_stops}
+use Rattle.zig_token.proofs.Runs.{run_passes, run_stops}
 
 name_some : (b : ℕ) → is_name_byte b ≡ true → 0 < b
 unfolding is_name_byte is_name_start is_digit

@@ -1,9 +1,8 @@
 -- Lines of text, one character after the other.
-use Rattle.std.proofs.Common.{◌≡◌, ℕ, suc, ◌+◌, ◌-◌, ◌<◌, ◌≤◌, Bool, true, false, List, ◌∷◌, length, get_or, drop, Option, Some, None, Result, Ok, Err, refl, sym, ap, ◌∙◌, arith, eqb, cond, ◌⊎◌, inl, inr}
+use Rattle.std.proofs.Common.{◌≡◌, ℕ, ◌+◌, ◌-◌, ◌<◌, ◌≤◌, true, false, List, length, get_or, drop, Some, None, Ok, Err, refl, ap, ◌∙◌, arith, eqb, cond, ◌⊎◌, inl, inr}
 use Rattle.std.proofs.lemmas.Bool.{and_parts, leb-true, eqb-true, cond_both, ne_eqb}
 use Rattle.std.proofs.lemmas.List.{drop_all}
-use Rattle.zig_tree.specs.TokenBytes.{is_plain, is_two_bytes, is_three_bytes, is_four_bytes, is_within, is_tail, char_len, ends_line}
-use Rattle.zig_token.specs.declared.fault.LexFault.{LexFault}
+use Rattle.zig_tree.specs.TokenBytes.{is_plain, is_two_bytes, is_three_bytes, is_four_bytes, is_within, char_len, ends_line}
 use Rattle.zig_token.specs.declared.fault.LexFault.TheVariants.{BadByte}
 use Rattle.zig_token.specs.Scan.{line_from, blanks_from, lines_from, next_line}
 use Rattle.zig_tree.specs.TokenBytes.{begins}

@@ -1,10 +1,10 @@
 -- Each piece of a text has a byte, and ends within the text.
-use Rattle.std.proofs.Common.{◌≡◌, ℕ, zero, suc, ◌+◌, ◌<◌, ◌≤◌, Bool, true, false, cond, ◌&&◌, List, [], ◌∷◌, length, get_or, drop, take, Option, Some, None, Result, Ok, Err, refl, sym, ap, subst, arith, ltb}
+use Rattle.std.proofs.Common.{◌≡◌, ℕ, ◌+◌, ◌<◌, ◌≤◌, Bool, true, List, [], ◌∷◌, length, get_or, drop, take, Some, refl, ap, subst, arith, ltb}
 use Rattle.std.specs.Prelude.{nat_eq, IfSome}
 use Rattle.std.specs.List.{starts_with, list_all}
 use Rattle.std.proofs.lemmas.Bool.{or_left, or_right, cond_both, and_parts, ltb-true}
 use Rattle.std.proofs.lemmas.Slice.Eq.{bytes_eq-Decides}
-use Rattle.std.proofs.lemmas.List.{length-take, length-drop}
+use Rattle.std.proofs.lemmas.List.{length-take}
 use Rattle.zig_tree.specs.declared.token.TokenKind.{TokenKind}
 use Rattle.zig_tree.specs.TokenBytes.{is_name_start, is_name_byte, is_digit}
 use Rattle.zig_tree.specs.TokenTables.{Row, symbols, row_at_front}

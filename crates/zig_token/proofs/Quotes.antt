@@ -1,8 +1,8 @@
 -- Escapes and strings, one byte or one item after the other.
-use Rattle.std.proofs.Common.{◌≡◌, ℕ, zero, suc, ◌+◌, ◌-◌, ◌*◌, ◌<◌, ◌≤◌, Bool, true, false, not, List, ◌∷◌, length, get_or, drop, Result, Ok, Err, refl, sym, ap, ◌∙◌, arith, eqb, leb, cond, ◌&&◌, ◌||◌, inl, inr}
-use Rattle.std.proofs.lemmas.Bool.{and_parts, leb-true, cond_both, ne_eqb, le-leb, lt-leb, or_cases}
+use Rattle.std.proofs.Common.{◌≡◌, ℕ, zero, suc, ◌+◌, ◌-◌, ◌*◌, ◌<◌, ◌≤◌, Bool, true, false, List, length, get_or, drop, Ok, Err, refl, ◌∙◌, arith, ◌||◌, inl, inr}
+use Rattle.std.proofs.lemmas.Bool.{ne_eqb, le-leb, lt-leb, or_cases}
 use Rattle.std.proofs.lemmas.List.{drop_all}
-use Rattle.zig_tree.specs.TokenBytes.{is_hex_digit, is_digit, is_within, digit_value, char_len, ends_line}
+use Rattle.zig_tree.specs.TokenBytes.{is_hex_digit, is_digit, is_within, digit_value}
 use Rattle.zig_token.specs.declared.fault.LexFault.{LexFault}
 use Rattle.zig_token.specs.declared.fault.LexFault.TheVariants.{OpenString}
 use Rattle.zig_token.specs.declared.quoted.Escape.TheVariants.{Whole, Wrong}

@@ -1,6 +1,6 @@
 -- A function over what is left of a text that passes over the bytes of one item.
-use Rattle.std.proofs.Common.{◌≡◌, ℕ, zero, suc, ◌+◌, ◌-◌, ◌<◌, ◌≤◌, List, [], ◌∷◌, length, get_or, drop, refl, sym, ap, ◌∙◌, arith, add-zero}
-use Rattle.std.proofs.lemmas.List.{drop_more, drop-drop, get_or_past, length-drop}
+use Rattle.std.proofs.Common.{◌≡◌, ℕ, zero, suc, ◌+◌, ◌-◌, ◌<◌, ◌≤◌, List, [], ◌∷◌, length, get_or, drop, refl, ap, ◌∙◌, arith, add-zero}
+use Rattle.std.proofs.lemmas.List.{drop_more, drop-drop, length-drop}
 
 -- a byte that is not 0 stands within the text
 pub within_text : (text : List ℕ) (at : ℕ) → 0 < get_or text at 0 → at < length text

@@ -44,16 +44,16 @@ is_two_bytes a b = is_within 0xC2 0xDF a && is_tail b
 unfoldable pub is_three_bytes : ℕ → ℕ → ℕ → Bool
 is_three_bytes a b c =
     (a == 0xE0 && is_within 0xA0 0xBF b
-        || (is_within 0xE1 0xEC a && is_tail b
-        || (a == 0xED && is_within 0x80 0x9F b
-        || is_within 0xEE 0xEF a && is_tail b)))
+    || (is_within 0xE1 0xEC a && is_tail b
+    || (a == 0xED && is_within 0x80 0x9F b
+    || is_within 0xEE 0xEF a && is_tail b)))
     && is_tail c
 
 unfoldable pub is_four_bytes : ℕ → ℕ → ℕ → ℕ → Bool
 is_four_bytes a b c d =
     (a == 0xF0 && is_within 0x90 0xBF b
-        || (is_within 0xF1 0xF3 a && is_tail b
-        || a == 0xF4 && is_within 0x80 0x8F b))
+    || (is_within 0xF1 0xF3 a && is_tail b
+    || a == 0xF4 && is_within 0x80 0x8F b))
     && (is_tail c && is_tail d)
 
 -- how many bytes the character at a place has that may stand in a comment or a string; 0 where none may

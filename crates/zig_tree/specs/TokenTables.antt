@@ -1,5 +1,5 @@
 -- The words and symbols of Zig's text, one a row.
-use Rattle.std.specs.Prelude.{ℕ, Bool, List, [], ◌∷◌, codes, length, Option, Some, None, if◌then◌else◌, unwrap_or}
+use Rattle.std.specs.Prelude.{ℕ, List, [], ◌∷◌, codes, length, Option, Some, None, if◌then◌else◌, unwrap_or}
 use Rattle.std.specs.Str.{bytes_eq}
 use Rattle.std.specs.List.{starts_with}
 use Rattle.std.specs.Prelude.{nat_eq}

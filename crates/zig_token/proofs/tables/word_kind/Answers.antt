@@ -1,4 +1,4 @@
-use Rattle.std.proofs.Common.{refl, sym, ◌∙◌}
+use Rattle.std.proofs.Common.{refl}
 use Rattle.zig_tree.specs.TokenTables.{word_kind}
 use Rattle.zig_token.proofs.tables.word_kind.Goals as goal
 

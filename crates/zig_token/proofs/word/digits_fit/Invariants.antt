@@ -1,4 +1,4 @@
-use Rattle.std.proofs.Common.{◌≡◌, ◌-◌, ◌≤◌, false, length, drop}
+use Rattle.std.proofs.Common.{◌≡◌, false, drop}
 use Rattle.zig_tree.specs.TokenNumbers.{digits_fit}
 use Rattle.zig_token.proofs.word.digits_fit.Given as goal
 
