@@ -1,0 +1,4 @@
+pub mod TokenBytes
+pub mod TokenNumbers
+pub mod TokenTables
+pub mod Tokens

@@ -1,0 +1,17 @@
+pub mod Rows
+pub mod Skips
+pub mod Lines
+pub mod Quotes
+pub mod Words
+pub mod Pieces
+pub mod Reading
+pub mod Runs
+pub mod LawChars
+pub mod LawEscapes
+pub mod LawQuotes
+pub mod LawWords
+pub mod LawLines
+pub mod LawSymbols
+pub mod LawPieces
+pub mod LawTexts
+pub mod LawNumbers

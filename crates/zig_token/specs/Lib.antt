@@ -1,0 +1,4 @@
+pub mod Tables
+pub mod Escapes
+pub mod Scan
+pub mod Answer
