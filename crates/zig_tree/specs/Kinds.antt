@@ -1,9 +1,16 @@
 -- Kinds of token, told apart by their numbers, and classes of them.
 use Rattle.std.specs.Prelude.{ℕ, Bool, true, false, ◌||◌, nat_eq}
+use Rattle.std.specs.Prelude.{ℕ, Bool, true, false, ◌&&◌, List, [], ◌∷◌, nat_eq, if◌then◌else◌}
 use Rattle.zig_tree.specs.declared.token.TokenKind.{TokenKind}
 use Rattle.zig_tree.specs.declared.token.TokenKind.TheVariants as kind
+use Rattle.zig_tree.specs.declared.grammar.Rule.{Rule}
+use Rattle.zig_tree.specs.declared.grammar.Rule.TheVariants as rule
+use Rattle.zig_tree.specs.declared.grammar.Group.{Group}
+use Rattle.zig_tree.specs.declared.grammar.Group.TheVariants as group
 use Rattle.zig_tree.specs.declared.grammar.TokenClass.{TokenClass}
 use Rattle.zig_tree.specs.declared.grammar.TokenClass.TheVariants as class
+use Rattle.zig_tree.specs.declared.grammar.Part.{Part}
+use Rattle.zig_tree.specs.declared.grammar.Part.TheVariants as part
 
 -- where a kind of token stands in the list of kinds
 unfoldable pub number_of : TokenKind → ℕ
@@ -130,6 +137,163 @@ number_of kind.KeywordWhile = 118
 -- whether two kinds of token are the same
 abbrev pub is_kind : TokenKind → TokenKind → Bool
 is_kind a b = nat_eq (number_of a) (number_of b)
+
+-- where a rule stands in the list of them
+unfoldable pub number_of_rule : Rule → ℕ
+number_of_rule rule.Root = 0
+number_of_rule rule.Member = 1
+number_of_rule rule.Field = 2
+number_of_rule rule.Declaration = 3
+number_of_rule rule.Variable = 4
+number_of_rule rule.Prototype = 5
+number_of_rule rule.Function = 6
+number_of_rule rule.Parameter = 7
+number_of_rule rule.Block = 8
+number_of_rule rule.Statement = 9
+number_of_rule rule.Body = 10
+number_of_rule rule.IfStatement = 11
+number_of_rule rule.WhileStatement = 12
+number_of_rule rule.ForStatement = 13
+number_of_rule rule.Rest = 14
+number_of_rule rule.ForArgument = 15
+number_of_rule rule.Captures = 16
+number_of_rule rule.Capture = 17
+number_of_rule rule.Name = 18
+number_of_rule rule.Assignment = 19
+number_of_rule rule.Or = 20
+number_of_rule rule.And = 21
+number_of_rule rule.Compare = 22
+number_of_rule rule.Bit = 23
+number_of_rule rule.Shift = 24
+number_of_rule rule.Add = 25
+number_of_rule rule.Multiply = 26
+number_of_rule rule.Prefix = 27
+number_of_rule rule.Primary = 28
+number_of_rule rule.IfExpression = 29
+number_of_rule rule.WhileExpression = 30
+number_of_rule rule.ForExpression = 31
+number_of_rule rule.RestExpression = 32
+number_of_rule rule.TypeExpression = 33
+number_of_rule rule.TypePrefix = 34
+number_of_rule rule.Suffix = 35
+number_of_rule rule.Atom = 36
+number_of_rule rule.Initializer = 37
+number_of_rule rule.Container = 38
+number_of_rule rule.ContainerBody = 39
+number_of_rule rule.Switch = 40
+number_of_rule rule.Prong = 41
+number_of_rule rule.Item = 42
+
+-- whether two of them are the same
+abbrev pub is_rule : Rule → Rule → Bool
+is_rule a b = nat_eq (number_of_rule a) (number_of_rule b)
+
+-- where a group stands in the list of them
+unfoldable pub number_of_group : Group → ℕ
+number_of_group group.RootMembers = 0
+number_of_group group.Members = 1
+number_of_group group.FieldEnd = 2
+number_of_group group.TypeOption = 3
+number_of_group group.ValueOption = 4
+number_of_group group.StringOption = 5
+number_of_group group.PubOption = 6
+number_of_group group.Declared = 7
+number_of_group group.Parameters = 8
+number_of_group group.MoreParameters = 9
+number_of_group group.BangOption = 10
+number_of_group group.ComptimeOption = 11
+number_of_group group.ParameterType = 12
+number_of_group group.Statements = 13
+number_of_group group.ComptimeStatement = 14
+number_of_group group.LabelledStatement = 15
+number_of_group group.ContinueOption = 16
+number_of_group group.MoreForArguments = 17
+number_of_group group.ForArguments = 18
+number_of_group group.ElseOption = 19
+number_of_group group.RestEnd = 20
+number_of_group group.RangeOption = 21
+number_of_group group.ExpressionOption = 22
+number_of_group group.MoreCaptures = 23
+number_of_group group.FurtherCaptures = 24
+number_of_group group.PointerOption = 25
+number_of_group group.CaptureOption = 26
+number_of_group group.AssignTail = 27
+number_of_group group.OrTail = 28
+number_of_group group.AndTail = 29
+number_of_group group.CompareTail = 30
+number_of_group group.BitTail = 31
+number_of_group group.ShiftTail = 32
+number_of_group group.AddTail = 33
+number_of_group group.MultiplyTail = 34
+number_of_group group.MorePrefixes = 35
+number_of_group group.LabelledExpression = 36
+number_of_group group.BreakLabel = 37
+number_of_group group.InitializerOption = 38
+number_of_group group.ElseExpression = 39
+number_of_group group.MoreTypePrefixes = 40
+number_of_group group.BangTypeOption = 41
+number_of_group group.ConstOption = 42
+number_of_group group.BracketPrefix = 43
+number_of_group group.SuffixTail = 44
+number_of_group group.Arguments = 45
+number_of_group group.MoreArguments = 46
+number_of_group group.DotAtom = 47
+number_of_group group.ErrorAtom = 48
+number_of_group group.ErrorNames = 49
+number_of_group group.MoreErrorNames = 50
+number_of_group group.InitializerBody = 51
+number_of_group group.MoreFields = 52
+number_of_group group.FurtherFields = 53
+number_of_group group.TagOption = 54
+number_of_group group.UnionTag = 55
+number_of_group group.Prongs = 56
+number_of_group group.MoreProngs = 57
+number_of_group group.ProngHead = 58
+number_of_group group.MoreItems = 59
+number_of_group group.Items = 60
+number_of_group group.ItemRange = 61
+
+-- whether two of them are the same
+abbrev pub is_group : Group → Group → Bool
+is_group a b = nat_eq (number_of_group a) (number_of_group b)
+
+-- where a class stands in the list of them
+unfoldable pub number_of_class : TokenClass → ℕ
+number_of_class class.ConstOrVar = 0
+number_of_class class.NameWord = 1
+number_of_class class.AssignOperator = 2
+number_of_class class.CompareOperator = 3
+number_of_class class.BitOperator = 4
+number_of_class class.ShiftOperator = 5
+number_of_class class.AddOperator = 6
+number_of_class class.MultiplyOperator = 7
+number_of_class class.PrefixOperator = 8
+number_of_class class.PointerMark = 9
+number_of_class class.AtomWord = 10
+number_of_class class.ContainerWord = 11
+number_of_class class.CaptureStart = 12
+number_of_class class.ParameterStart = 13
+number_of_class class.TypePrefixStart = 14
+number_of_class class.OperandWord = 15
+number_of_class class.StatementWord = 16
+number_of_class class.TypeStart = 17
+number_of_class class.ExpressionStart = 18
+number_of_class class.StatementStart = 19
+number_of_class class.ProngStart = 20
+number_of_class class.DeclarationStart = 21
+number_of_class class.MemberStart = 22
+
+-- whether two of them are the same
+abbrev pub is_class : TokenClass → TokenClass → Bool
+is_class a b = nat_eq (number_of_class a) (number_of_class b)
+
+-- whether two parts of alternatives are the same
+abbrev pub is_part : Part → Part → Bool
+is_part (part.Token a) (part.Token b) = is_kind a b
+is_part (part.OneOf a) (part.OneOf b) = is_class a b
+is_part (part.Rule a) (part.Rule b) = is_rule a b
+is_part (part.Group a) (part.Group b) = is_group a b
+is_part _ _ = false
 
 -- `const` or `var`
 unfoldable pub is_const_or_var : TokenKind → Bool

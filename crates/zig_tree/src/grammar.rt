@@ -1,7 +1,7 @@
 // The grammar of Zig's text as data: its rules, each a list of alternatives that are parts in a row.
 ghost use Rattle.std.specs.Prelude.{◌≡◌, map};
 ghost use Rattle.zig_tree.specs.Grammar.{holds};
-ghost use Rattle.zig_tree.specs.Kinds.{has_kind, is_kind, number_of};
+ghost use Rattle.zig_tree.specs.Kinds.{has_kind, is_class, is_group, is_kind, is_part, is_rule, number_of, number_of_class, number_of_group, number_of_rule};
 ghost use Rattle.zig_tree.specs.Kinds as spec;
 
 use crate::token::TokenKind;
@@ -327,6 +327,75 @@ pub fn same_kind(a: TokenKind, b: TokenKind) -> bool
     ensures { result ≡ is_kind a b }
 {
     number(a) == number(b)
+}
+
+/// Where a rule stands in the list of them, from 0.
+#[tactic(auto, unfolding(crate::specs::Kinds::number_of_rule))]
+fn rule_number(rule: Rule) -> u8
+    ensures { result ≡ number_of_rule rule }
+{
+    rule as u8
+}
+
+/// Where a group stands in the list of them, from 0.
+#[tactic(auto, unfolding(crate::specs::Kinds::number_of_group))]
+fn group_number(group: Group) -> u8
+    ensures { result ≡ number_of_group group }
+{
+    group as u8
+}
+
+/// Where a class stands in the list of them, from 0.
+#[tactic(auto, unfolding(crate::specs::Kinds::number_of_class))]
+fn class_number(class: TokenClass) -> u8
+    ensures { result ≡ number_of_class class }
+{
+    class as u8
+}
+
+/// Whether two rules are the same.
+pub fn same_rule(a: Rule, b: Rule) -> bool
+    ensures { result ≡ is_rule a b }
+{
+    rule_number(a) == rule_number(b)
+}
+
+/// Whether two groups are the same.
+fn same_group(a: Group, b: Group) -> bool
+    ensures { result ≡ is_group a b }
+{
+    group_number(a) == group_number(b)
+}
+
+/// Whether two classes are the same.
+fn same_class(a: TokenClass, b: TokenClass) -> bool
+    ensures { result ≡ is_class a b }
+{
+    class_number(a) == class_number(b)
+}
+
+/// Whether two parts of alternatives are the same.
+pub fn same_part(a: Part, b: Part) -> bool
+    ensures { result ≡ is_part a b }
+{
+    match a {
+        Part::Token(x) => match b {
+            Part::Token(y) => same_kind(x, y),
+            _ => false,
+        },
+        Part::OneOf(x) => match b {
+            Part::OneOf(y) => same_class(x, y),
+            _ => false,
+        },
+        Part::Rule(x) => match b {
+            Part::Rule(y) => same_rule(x, y),
+            _ => false,
+        },
+        Part::Group(x) => match b {
+            Part::Group(y) => same_group(x, y),
+            _ => false,
+        },
+    }
 }
 
 /// `const` or `var`.

@@ -10,7 +10,7 @@ mod productions;
 mod token;
 mod tree;
 
-pub use grammar::{Group, Part, Production, Rule, TokenClass, When, same_kind};
+pub use grammar::{Group, Part, Production, Rule, TokenClass, When, same_kind, same_part, same_rule};
 pub use productions::{group_productions, rule_productions};
 pub use token::{Token, TokenKind};
 pub use tree::{Kid, Node, Tree};

@@ -1,0 +1,4 @@
+pub mod Front
+pub mod Steps
+pub mod Slices
+pub mod Tokens
