@@ -4,3 +4,7 @@ pub mod Threads
 pub mod Moves
 pub mod Passes
 pub mod Surveys
+pub mod Nodes
+pub mod Growth
+pub mod Grows
+pub mod Tokens
