@@ -1,10 +1,19 @@
 -- What a compilation answers: the files as they stand, from the root on.
-use Rattle.std.specs.Prelude.{◌≡◌, ℕ, ◌+◌, ◌*◌, ◌<◌, pos, Bool, true, false, if◌then◌else◌, nat_lt, List, [], ◌∷◌, length, map, codes, Option, None, Some}
+use Rattle.std.specs.Prelude.{◌≡◌, ℕ, ◌+◌, ◌*◌, ◌<◌, pos, Bool, true, false, if◌then◌else◌, nat_lt, List, [], ◌∷◌, length, map, codes, slice_get, Option, None, Some, Result, Ok, Err}
 use Rattle.std.specs.Int.{w32, cast_signed}
 use Rattle.zw_base.specs.Outside.{file_at}
-use Rattle.zw_base.specs.declared.diag.DiagCode.TheVariants.{NotBuilt, RootMissing, ModuleTooLarge}
+use Rattle.zw_base.specs.declared.diag.DiagCode.TheVariants.{NotBuilt, BadByte, BadEscape, OpenString, BadNumber, UnexpectedToken, TooDeep, RootMissing, ModuleTooLarge}
 use Rattle.zw_base.specs.declared.diag.DiagCode.{DiagCode}
 use Rattle.diag_order.specs.declared.line.Line.{Line}
+use Rattle.diag_order.specs.Places.{line_at, col_at}
+use Rattle.zig_tree.specs.declared.token.Token.{Token}
+use Rattle.zig_tree.specs.declared.tree.Node.{Node}
+use Rattle.zig_token.specs.declared.fault.LexFault.{LexFault}
+use Rattle.zig_token.specs.declared.fault.LexFault.TheVariants as lex
+use Rattle.zig_token.specs.Scan.{tokens_of}
+use Rattle.zig_parse.specs.declared.fault.SyntaxFault.{SyntaxFault}
+use Rattle.zig_parse.specs.declared.fault.SyntaxFault.TheVariants as syntax
+use Rattle.zig_parse.specs.Growth.{parse_of}
 use Rattle.wasm_form.specs.declared.module.Module.{Module}
 use Rattle.wasm_form.specs.declared.module.FnType.{FnType}
 use Rattle.wasm_form.specs.declared.module.TypeIndex.{TypeIndex}
@@ -60,20 +69,50 @@ pub data Compiled : Type 0 where
 abbrev pub at_start : List ℕ → DiagCode → Line
 at_start path code = record { path = path; line = 1; col = 1; code = code; text = [] }
 
+-- a diagnostic at a byte of a file's text
+abbrev pub at_byte : List ℕ → List ℕ → ℕ → DiagCode → Line
+at_byte path text offset code = record { path = path; line = line_at text offset; col = col_at text offset; code = code; text = [] }
+
 -- the linker's answer for these functions
 abbrev pub link : List ℕ → List ConstFunction → Compiled
 link root fs =
     if nat_lt 268435456 (length (module_bytes (linked fs))) then Refused fs (at_start root ModuleTooLarge ∷ [])
     else Linked fs (module_bytes (linked fs))
 
--- a form that is built goes to the linker; every other text is a form that is not built yet
+-- a form that is built goes to the linker; every other sentence is a form that is not built yet
 abbrev pub compile_form : List ℕ → Option ConstFunction → Compiled
 compile_form root None = Front (at_start root NotBuilt ∷ [])
 compile_form root (Some f) = link root (f ∷ [])
 
+abbrev pub start_of_some : Option Token → ℕ
+start_of_some None = 0
+start_of_some (Some token) = token.span.start
+
+-- where the token with this number begins
+abbrev pub start_of : List Token → ℕ → ℕ
+start_of tokens n = start_of_some (slice_get tokens n)
+
+-- tokens that are no sentence have one diagnostic, at the token that is refused
+abbrev pub compile_tree : List ℕ → List ℕ → List Token → Result (List Node) SyntaxFault → Compiled
+compile_tree root text tokens (Ok nodes) = compile_form root (built_of text tokens)
+compile_tree root text tokens (Err (syntax.Unexpected kind n)) = Front (at_byte root text (start_of tokens n) UnexpectedToken ∷ [])
+compile_tree root text tokens (Err (syntax.TooDeep n)) = Front (at_byte root text (start_of tokens n) TooDeep ∷ [])
+-- no tokens have this one
+compile_tree root text tokens (Err syntax.OutOfMemory) = Front []
+
+-- a text without tokens has one diagnostic, at the fault that it shows first
+abbrev pub compile_tokens : List ℕ → List ℕ → Result (List Token) LexFault → Compiled
+compile_tokens root text (Ok tokens) = compile_tree root text tokens (parse_of tokens)
+compile_tokens root text (Err (lex.BadByte at)) = Front (at_byte root text at BadByte ∷ [])
+compile_tokens root text (Err (lex.BadEscape at)) = Front (at_byte root text at BadEscape ∷ [])
+compile_tokens root text (Err (lex.OpenString at)) = Front (at_byte root text at OpenString ∷ [])
+compile_tokens root text (Err (lex.BadNumber at)) = Front (at_byte root text at BadNumber ∷ [])
+-- no text has this one
+compile_tokens root text (Err lex.OutOfMemory) = Front []
+
 abbrev pub compile_text : List ℕ → Option (List ℕ) → Compiled
 compile_text root None = Front (at_start root RootMissing ∷ [])
-compile_text root (Some text) = compile_form root (built_of text)
+compile_text root (Some text) = compile_tokens root text (tokens_of text)
 
 -- the answer for the files, from the root on
 abbrev pub compile : List ℕ → List (List ℕ × List ℕ) → Compiled

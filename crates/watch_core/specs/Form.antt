@@ -1,31 +1,24 @@
--- The one text that is built so far: `export fn NAME() u32 { return INT; }`, and at most one line end.
-use Rattle.std.specs.Prelude.{◌≡◌, ℕ, ◌+◌, ◌-◌, ◌*◌, ◌^◌, Bool, true, false, not, nat_lt, nat_le, ◌==◌, ◌&&◌, ◌||◌, if◌then◌else◌, List, [], ◌∷◌, length, take, drop, fold, codes, slice_index, Option, None, Some}
-use Rattle.std.specs.List.{list_any, prefix_len, starts_with}
-use Rattle.std.specs.Option.{option_and_then}
+-- The one form that is built so far, told by tokens: `export fn NAME() u32 { return INT; }`.
+use Rattle.std.specs.Prelude.{◌≡◌, ℕ, ◌+◌, ◌-◌, ◌*◌, ◌^◌, Bool, true, false, not, nat_lt, nat_le, ◌==◌, ◌&&◌, if◌then◌else◌, List, [], ◌∷◌, length, fold, codes, slice_get, slice_range, Option, None, Some}
+use Rattle.std.specs.List.{list_any, list_all}
+use Rattle.std.specs.Option.{option_map}
+use Rattle.std.specs.Str.{bytes_eq}
 use lib.Pointwise.{pointwise}
-use Rattle.watch_core.specs.declared.form.TheConstants.{RESERVED}
+use Rattle.zig_tree.specs.declared.token.TokenKind.{TokenKind}
+use Rattle.zig_tree.specs.declared.token.Token.{Token}
+use Rattle.zig_tree.specs.Kinds.{is_kind}
+use Rattle.watch_core.specs.declared.form.TheConstants.{FORM, NAME, TYPE, NUMBER, RESERVED}
 
 -- a function that gives a constant
 pub record ConstFunction : Type 0 where
   pub name : List ℕ
   pub value : ℕ
 
--- what follows a front, where the text begins with it
-abbrev pub after : List ℕ → List ℕ → Option (List ℕ)
-after front text = if starts_with ◌==◌ text front then Some (drop (length front) text) else None
-
 abbrev pub is_letter : ℕ → Bool
 is_letter b = nat_le 97 b && nat_le b 122
 
 abbrev pub is_digit : ℕ → Bool
 is_digit b = nat_le 48 b && nat_le b 57
-
--- the bytes that pass a test, up to the first that doesn't, and what follows them
-abbrev pub run : (ℕ → Bool) → List ℕ → List ℕ
-run test text = take (prefix_len test text) text
-
-abbrev pub after_run : (ℕ → Bool) → List ℕ → List ℕ
-after_run test text = drop (prefix_len test text) text
 
 unfoldable pub is_reserved : List ℕ → Bool
 is_reserved letters = list_any (λ word. pointwise ◌==◌ word.now letters) RESERVED
@@ -47,27 +40,36 @@ is_plain (d ∷ e ∷ ds) = not (d == 48)
 
 -- a plain number of 32 bits
 abbrev pub int_of : List ℕ → Option ℕ
-int_of digits = if is_plain digits && nat_lt (value_from 0 digits) (2 ^ 32) then Some (value_from 0 digits) else None
+int_of digits =
+    if list_all is_digit digits && is_plain digits && nat_lt (value_from 0 digits) (2 ^ 32) then Some (value_from 0 digits) else None
 
--- nothing, or one line end
-abbrev pub is_end : List ℕ → Bool
-is_end [] = true
-is_end (b ∷ []) = b == 10
-is_end (b ∷ c ∷ bs) = false
+-- the kinds of tokens are these, in this order
+abbrev pub have_kinds : List Token → List TokenKind → Bool
+have_kinds [] [] = true
+have_kinds [] (k ∷ ks) = false
+have_kinds (t ∷ ts) [] = false
+have_kinds (t ∷ ts) (k ∷ ks) = is_kind t.kind k && have_kinds ts ks
 
--- the function, from its name and from the text behind `return `
-unfoldable pub built_value : List ℕ → List ℕ → Option ConstFunction
-built_value name text =
-    option_and_then (λ rest. option_and_then (λ value.
-    if is_name name && is_end rest then Some (record { name = name; value = value }) else None)
-    (int_of (run is_digit text)))
-    (after (codes "; }") (after_run is_digit text))
+-- the bytes of a token; one that doesn't lie in the text has none
+abbrev pub bytes_of : List ℕ → Token → List ℕ
+bytes_of text token =
+    if nat_le token.span.start token.span.end && nat_le token.span.end (length text)
+    then slice_range text token.span.start token.span.end else []
 
--- the function, from the text behind `export fn `
-unfoldable pub built_function : List ℕ → Option ConstFunction
-built_function text =
-    option_and_then (built_value (run is_letter text)) (after (codes "() u32 { return ") (after_run is_letter text))
+abbrev pub bytes_of_some : List ℕ → Option Token → List ℕ
+bytes_of_some text None = []
+bytes_of_some text (Some token) = bytes_of text token
 
--- the function that a text is, where it is of the form
-unfoldable pub built_of : List ℕ → Option ConstFunction
-built_of text = option_and_then built_function (after (codes "export fn ") text)
+-- the bytes of the token with this number
+abbrev pub bytes_at : List ℕ → List Token → ℕ → List ℕ
+bytes_at text tokens n = bytes_of_some text (slice_get tokens n)
+
+-- the function, from its name, its type and its number
+unfoldable pub built_from : List ℕ → List ℕ → List ℕ → Option ConstFunction
+built_from name type_name digits =
+    if is_name name && bytes_eq type_name (codes "u32") then option_map (λ value. record { name = name; value = value }) (int_of digits) else None
+
+-- the function that tokens are, where they are those of the form
+unfoldable pub built_of : List ℕ → List Token → Option ConstFunction
+built_of text tokens =
+    if have_kinds tokens FORM then built_from (bytes_at text tokens NAME) (bytes_at text tokens TYPE) (bytes_at text tokens NUMBER) else None

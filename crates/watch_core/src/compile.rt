@@ -1,17 +1,24 @@
 // The answer for the files, from the root on.
-ghost use Rattle.std.specs.Prelude.{◌≡◌, [], ◌∷◌, IfOk, Some, None, codes};
+ghost use Rattle.std.specs.Prelude.{◌≡◌, ◌≤◌, length, [], ◌∷◌, IfOk, Some, None, codes};
 ghost use Rattle.std.specs.Int.{w32, cast_signed};
 ghost use Rattle.std.specs.Option.{option_map};
-ghost use Rattle.watch_core.specs.Compile.{linked, at_start, link, compile_text, update_of, stack_pointer};
+ghost use Rattle.std.specs.Option.{ForSome};
+ghost use Rattle.zig_token.specs.Scan.{tokens_of};
+ghost use Rattle.zig_parse.specs.Growth.{parse_of};
+ghost use Rattle.watch_core.specs.Compile.{linked, at_start, at_byte, start_of, link, compile_form, compile_tree, compile_tokens, compile_text, update_of, stack_pointer};
 
 use crate::form::{ConstFn, built_of};
 use crate::session::Update;
-use diag_order::Line;
+use diag_order::{Line, line_col};
 use std::alloc::{AllocError, Global};
 use wasm_form::{
     Code, EncodeFault, Export, Exported, FnType, Global as Variable, Instr, Memory, Module,
     TypeIndex, ValType, encode,
 };
+use zig_parse::{SyntaxFault, parse};
+use zig_token::{LexFault, tokens};
+use zig_tree::Token;
+use zw_base::limits::TOTAL_BYTES;
 use zw_base::{Bytes, DiagCode, FilePath, Seq};
 use zw_bytes::ByteBuf;
 
@@ -21,36 +28,148 @@ pub fn compile_text(
     root: &FilePath,
     text: Option<&[u8]>,
 ) -> Result<Update, AllocError>
+    requires { ForSome text (λ t. length t.now ≤ TOTAL_BYTES) }
     ensures { IfOk result (λ u. u ≡ update_of (compile_text root.now (option_map (λ t. t.now) text.entry))) }
 {
-    let Some(text) = text else {
-        return front(alloc, root, DiagCode::RootMissing);
-    };
-    match built_of(text) {
-        Some(f) => link(alloc, root, f),
-        None => front(alloc, root, DiagCode::NotBuilt),
+    match text {
+        None => front(at_start(alloc, root, DiagCode::RootMissing)?),
+        Some(text) => compile_source(alloc, root, text),
     }
 }
 
-/// A diagnostic at the root's start, before any unit was analysed.
-fn front(alloc: Global, root: &FilePath, code: DiagCode) -> Result<Update, AllocError>
-    ensures { IfOk result (λ u. u ≡ Update.Errors (at_start root.now code ∷ []) 0 0) }
+/// The answer for a text: the tokens' answer, or the fault that it shows first.
+fn compile_source(alloc: Global, root: &FilePath, text: &[u8]) -> Result<Update, AllocError>
+    requires { length text.now ≤ TOTAL_BYTES }
+    ensures { IfOk result (λ u. u ≡ update_of (compile_tokens root.now text.now (tokens_of text.now))) }
+{
+    match tokens(alloc, text) {
+        Ok(tokens) => compile_tokens(alloc, root, text, tokens.as_slice()),
+        Err(LexFault::BadByte { at }) => front(at_byte(alloc, root, text, at, DiagCode::BadByte)?),
+        Err(LexFault::BadEscape { at }) => front(at_byte(
+            alloc,
+            root,
+            text,
+            at,
+            DiagCode::BadEscape,
+        )?),
+        Err(LexFault::OpenString { at }) => front(at_byte(
+            alloc,
+            root,
+            text,
+            at,
+            DiagCode::OpenString,
+        )?),
+        Err(LexFault::BadNumber { at }) => front(at_byte(
+            alloc,
+            root,
+            text,
+            at,
+            DiagCode::BadNumber,
+        )?),
+        Err(LexFault::OutOfMemory) => Err(AllocError),
+    }
+}
+
+/// The answer for tokens: the form's answer, or the token that is refused.
+fn compile_tokens(
+    alloc: Global,
+    root: &FilePath,
+    text: &[u8],
+    tokens: &[Token],
+) -> Result<Update, AllocError>
+    requires { length text.now ≤ TOTAL_BYTES }
+    ensures { IfOk result (λ u. u ≡ update_of (compile_tree root.now text.now tokens.now (parse_of tokens.now))) }
+{
+    match parse(alloc, tokens) {
+        Ok(_) => compile_form(alloc, root, built_of(text, tokens)),
+        Err(SyntaxFault::Unexpected { at, .. }) => {
+            front(at_byte(
+                alloc,
+                root,
+                text,
+                start_of(tokens, at),
+                DiagCode::UnexpectedToken,
+            )?)
+        }
+        Err(SyntaxFault::TooDeep { at }) => {
+            front(at_byte(alloc, root, text, start_of(tokens, at), DiagCode::TooDeep)?)
+        }
+        Err(SyntaxFault::OutOfMemory) => Err(AllocError),
+    }
+}
+
+/// The answer for a sentence that is of the form, or of another.
+fn compile_form(
+    alloc: Global,
+    root: &FilePath,
+    f: Option<ConstFn<'_>>,
+) -> Result<Update, AllocError>
+    ensures { IfOk result (λ u. u ≡ update_of (compile_form root.now (option_map (λ f. record { name = f.name.now; value = f.value }) f.entry))) }
+{
+    match f {
+        Some(f) => link(alloc, root, f),
+        None => front(at_start(alloc, root, DiagCode::NotBuilt)?),
+    }
+}
+
+/// Where the token with this number begins.
+fn start_of(tokens: &[Token], n: u32) -> u32
+    ensures { result ≡ start_of tokens.now n }
+{
+    match tokens.get(n as usize) {
+        Some(token) => token.span.start,
+        None => 0,
+    }
+}
+
+/// Diagnostics, before any unit was analysed.
+fn front(lines: Seq<Line>) -> Result<Update, AllocError>
+    ensures { IfOk result (λ u. u ≡ Update.Errors lines 0 0) }
 {
     Ok(Update::Errors {
-        lines: at_start(alloc, root, code)?,
+        lines,
         analysed: 0,
         reused: 0,
     })
+}
+
+/// A diagnostic at a byte of the root's text.
+#[tactic(auto, using(crate::proofs::PlaceLemmas::line_within, crate::proofs::PlaceLemmas::col_within))]
+fn at_byte(
+    alloc: Global,
+    root: &FilePath,
+    text: &[u8],
+    offset: u32,
+    code: DiagCode,
+) -> Result<Seq<Line>, AllocError>
+    requires { length text.now ≤ TOTAL_BYTES }
+    ensures { IfOk result (λ lines. lines ≡ at_byte root.now text.now offset code ∷ []) }
+{
+    let (line, col) = line_col(text, offset.min(text.len() as u32));
+    one_line(alloc, root, line, col, code)
 }
 
 /// A diagnostic at the root's start.
 fn at_start(alloc: Global, root: &FilePath, code: DiagCode) -> Result<Seq<Line>, AllocError>
     ensures { IfOk result (λ lines. lines ≡ at_start root.now code ∷ []) }
 {
+    one_line(alloc, root, 1, 1, code)
+}
+
+/// A diagnostic in its place.
+fn one_line(
+    alloc: Global,
+    root: &FilePath,
+    line: u32,
+    col: u32,
+    code: DiagCode,
+) -> Result<Seq<Line>, AllocError>
+    ensures { IfOk result (λ lines. lines ≡ record { path = root.now; line = line; col = col; code = code; text = [] } ∷ []) }
+{
     let line = Line {
         path: root.clone()?,
-        line: 1,
-        col: 1,
+        line,
+        col,
         code,
         text: Bytes::of(Vec::new(alloc)),
     };

@@ -1,9 +1,11 @@
-// The one text that is built so far.
-ghost use Rattle.std.specs.Prelude.{◌≡◌, ◌≤◌, ◌<◌, ◌+◌, ◌^◌, length, drop, take, codes, Some, None, nat_lt, ◌==◌, if◌then◌else◌};
-ghost use lib.Pointwise.{pointwise};
-ghost use Rattle.std.specs.List.{list_any, prefix_len};
+// The one form that is built so far, told by tokens.
+ghost use Rattle.std.specs.Prelude.{◌≡◌, ◌≤◌, ◌<◌, ◌==◌};
+ghost use Rattle.std.specs.List.{list_any, list_all};
 ghost use Rattle.std.specs.Option.{option_map};
-ghost use Rattle.watch_core.specs.Form.{after, is_letter, is_digit, run, after_run, is_name, is_reserved, value_from, is_plain, int_of, is_end, built_value, built_function, built_of};
+ghost use lib.Pointwise.{pointwise};
+ghost use Rattle.watch_core.specs.Form.{is_digit, is_name, is_reserved, is_plain, int_of, have_kinds, bytes_of, bytes_at, built_from, built_of};
+
+use zig_tree::{Token, TokenKind, same_kind};
 
 /// A function that gives a constant.
 #[derive(Clone, Copy, Debug)]
@@ -11,6 +13,29 @@ pub struct ConstFn<'a> {
     pub name: &'a [u8],
     pub value: u32,
 }
+
+/// The kinds of the form's tokens.
+const FORM: [TokenKind; 12] = [
+    TokenKind::KeywordExport,
+    TokenKind::KeywordFn,
+    TokenKind::Identifier,
+    TokenKind::LeftParen,
+    TokenKind::RightParen,
+    TokenKind::Identifier,
+    TokenKind::LeftBrace,
+    TokenKind::KeywordReturn,
+    TokenKind::Integer,
+    TokenKind::Semicolon,
+    TokenKind::RightBrace,
+    TokenKind::End,
+];
+
+/// The numbers of the tokens that are the function's name, its type and the constant.
+const NAME: usize = 2;
+
+const TYPE: usize = 5;
+
+const NUMBER: usize = 8;
 
 /// What no function may be called: Zig's keywords, and the names that stand for types and values.
 const RESERVED: [&str; 61] = [
@@ -77,72 +102,70 @@ const RESERVED: [&str; 61] = [
     "memory",
 ];
 
-/// The function that a text is, where it is `export fn NAME() u32 { return INT; }` and at most one
-/// line end: NAME of 1 to 64 letters and not reserved, INT plain and below 2^32.
+/// The function that tokens are, where they are those of `export fn NAME() u32 { return INT; }`: NAME
+/// of 1 to 64 small letters and not reserved, INT in plain digits and below 2^32.
 #[tactic(auto, unfolding(crate::specs::Form::built_of))]
-pub fn built_of(text: &[u8]) -> Option<ConstFn<'_>>
-    ensures { option_map (λ f. record { name = f.name.now; value = f.value }) result ≡ built_of text.entry.now }
+pub fn built_of<'a>(text: &'a [u8], tokens: &[Token]) -> Option<ConstFn<'a>>
+    ensures { option_map (λ f. record { name = f.name.now; value = f.value }) result ≡ built_of text.entry.now tokens.now }
 {
-    built_function(after(b"export fn ", text)?)
+    if !have_kinds(tokens, &FORM) {
+        return None;
+    }
+    built_from(
+        bytes_at(text, tokens, NAME),
+        bytes_at(text, tokens, TYPE),
+        bytes_at(text, tokens, NUMBER),
+    )
 }
 
-#[tactic(auto, unfolding(crate::specs::Form::built_function))]
-fn built_function(text: &[u8]) -> Option<ConstFn<'_>>
-    ensures { option_map (λ f. record { name = f.name.now; value = f.value }) result ≡ built_function text.entry.now }
+#[tactic(auto, unfolding(crate::specs::Form::built_from))]
+fn built_from<'a>(name: &'a [u8], type_name: &[u8], digits: &[u8]) -> Option<ConstFn<'a>>
+    ensures { option_map (λ f. record { name = f.name.now; value = f.value }) result ≡ built_from name.entry.now type_name.now digits.now }
 {
-    let (name, rest) = text.split_at(letters(text));
-    built_value(name, after(b"() u32 { return ", rest)?)
-}
-
-#[tactic(auto, unfolding(crate::specs::Form::built_value))]
-fn built_value<'a>(name: &'a [u8], text: &[u8]) -> Option<ConstFn<'a>>
-    ensures { option_map (λ f. record { name = f.name.now; value = f.value }) result ≡ built_value name.entry.now text.now }
-{
-    let (number, rest) = text.split_at(digits(text));
-    let rest = after(b"; }", rest)?;
-    let value = int_of(number)?;
-    if is_name(name) && is_end(rest) {
-        Some(ConstFn { name, value })
-    } else {
-        None
+    if !is_name(name) || *type_name != *b"u32".as_slice() {
+        return None;
+    }
+    match int_of(digits) {
+        Some(value) => Some(ConstFn { name, value }),
+        None => None,
     }
 }
 
-/// What follows a front, where the text begins with it.
-fn after<'a>(front: &[u8], text: &'a [u8]) -> Option<&'a [u8]>
-    ensures { option_map (λ r. r.now) result ≡ after front.now text.entry.now }
+/// Whether the kinds of tokens are these.
+fn have_kinds(tokens: &[Token], kinds: &[TokenKind]) -> bool
+    ensures { result ≡ have_kinds tokens.now kinds.now }
 {
-    if text.starts_with(front) {
-        Some(&text[front.len()..])
-    } else {
-        None
+    if tokens.len() != kinds.len() {
+        return false;
     }
-}
-
-/// How many letters stand at the front.
-fn letters(text: &[u8]) -> usize
-    ensures count { result ≡ prefix_len is_letter text.now }
-    ensures within { result ≤ length text.now }
-{
-    for (i, b) in text.iter().enumerate() {
-        if !b.is_ascii_lowercase() {
-            return i;
+    for (token, kind) in tokens.iter().zip(kinds) {
+        if !same_kind(token.kind, *kind) {
+            return false;
         }
     }
-    text.len()
+    true
 }
 
-/// How many digits stand at the front.
-fn digits(text: &[u8]) -> usize
-    ensures count { result ≡ prefix_len is_digit text.now }
-    ensures within { result ≤ length text.now }
+/// The bytes of the token with this number.
+fn bytes_at<'a>(text: &'a [u8], tokens: &[Token], n: usize) -> &'a [u8]
+    ensures { result.now ≡ bytes_at text.entry.now tokens.now n }
 {
-    for (i, b) in text.iter().enumerate() {
-        if !b.is_ascii_digit() {
-            return i;
-        }
+    match tokens.get(n) {
+        Some(token) => bytes_of(text, *token),
+        None => &[],
     }
-    text.len()
+}
+
+/// The bytes of a token; one that doesn't lie in the text has none.
+fn bytes_of(text: &[u8], token: Token) -> &[u8]
+    ensures { result.now ≡ bytes_of text.entry.now token }
+{
+    let (start, end) = (token.span.start as usize, token.span.end as usize);
+    if start <= end && end <= text.len() {
+        &text[start..end]
+    } else {
+        &[]
+    }
 }
 
 /// Whether a name may be given to a function.
@@ -169,7 +192,7 @@ fn is_among(words: &[&str], letters: &[u8]) -> bool
 fn int_of(digits: &[u8]) -> Option<u32>
     ensures { result ≡ int_of digits.now }
 {
-    if !is_plain(digits) {
+    if !are_digits(digits) || !is_plain(digits) {
         return None;
     }
     let mut value = 0u64;
@@ -182,6 +205,12 @@ fn int_of(digits: &[u8]) -> Option<u32>
     Some(value as u32)
 }
 
+fn are_digits(bytes: &[u8]) -> bool
+    ensures { result ≡ list_all is_digit bytes.now }
+{
+    bytes.iter().all(|b| b.is_ascii_digit())
+}
+
 /// Whether digits have no leading zero, or are `0`.
 fn is_plain(digits: &[u8]) -> bool
     ensures { result ≡ is_plain digits.now }
@@ -191,11 +220,4 @@ fn is_plain(digits: &[u8]) -> bool
         [_] => true,
         [first, ..] => *first != b'0',
     }
-}
-
-/// Whether nothing follows, or one line end.
-fn is_end(text: &[u8]) -> bool
-    ensures { result ≡ is_end text.now }
-{
-    matches!(text, [] | [b'\n'])
 }
