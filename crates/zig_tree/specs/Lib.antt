@@ -1,4 +1,5 @@
 pub mod Kinds
 pub mod Grammar
+pub mod GrammarSentences
 pub mod Productions
 pub mod Nodes
