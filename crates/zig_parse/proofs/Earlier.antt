@@ -42,8 +42,8 @@ earlier_more n (x ∷ a) h = and_both _ _ (still_earlier n x (and_first (is_earl
 pub all_append : (first : ℕ) (ns : List Node) (n : Node) → all_earlier first ns ≡ true → are_earlier (first + length ns) n.kids ≡ true → all_earlier first (ns ++ n ∷ []) ≡ true
 all_append first [] n h k = and_both _ _ (rw add-zero at k) refl
 all_append first (m ∷ ns) n h k =
-  let same : first + suc (length ns) ≡ first + 1 + length ns = omega arith in
-  and_both _ _ (and_first (are_earlier first m.kids) (all_earlier (first + 1) ns) h)
+    let same : first + suc (length ns) ≡ first + 1 + length ns = omega arith in
+    and_both _ _ (and_first (are_earlier first m.kids) (all_earlier (first + 1) ns) h)
     (all_append (first + 1) ns n (and_second (are_earlier first m.kids) (all_earlier (first + 1) ns) h) (subst (λ (k : ℕ). are_earlier k n.kids ≡ true) same k))
 
 pub nodes_append : (ns : List Node) (n : Node) → AreEarlier ns → are_earlier (length ns) n.kids ≡ true → AreEarlier (ns ++ n ∷ [])

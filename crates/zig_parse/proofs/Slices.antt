@@ -32,7 +32,7 @@ unfolding any_waits
 any_end ts i e = rw (e, drop_end ts) refl
 
 least_cons : (least : Option ℕ) (goal : Rule) (x : Thread) (ts : List Thread)
-  → least_from least goal (x ∷ ts) ≡ least_from (if wants x goal then Some (least_with (depth_for x) least) else least) goal ts
+    → least_from least goal (x ∷ ts) ≡ least_from (if wants x goal then Some (least_with (depth_for x) least) else least) goal ts
 unfolding least_from
 least_cons least goal x ts = refl
 
@@ -43,18 +43,18 @@ chosen_else : {T : Type 0} (b : Bool) (x y : T) → b ≡ false → (if b then x
 chosen_else b x y e = rw e refl
 
 pub least_more : (least now : Option ℕ) (goal : Rule) (ts : List Thread) (i : ℕ) (x : Thread) → i < length ts → x ≡ get_or ts i x → wants x goal ≡ true
-  → now ≡ Some (least_with (depth_for x) least) → least_from least goal (drop i ts) ≡ least_from now goal (drop (i + 1) ts)
+    → now ≡ Some (least_with (depth_for x) least) → least_from least goal (drop i ts) ≡ least_from now goal (drop (i + 1) ts)
 least_more least now goal ts i x h e b s =
-  ap (least_from least goal) (drop_item ts i x h e)
-  ∙ least_cons least goal x (drop (i + 1) ts)
-  ∙ ap (λ (o : Option ℕ). least_from o goal (drop (i + 1) ts)) (chosen_if (wants x goal) (Some (least_with (depth_for x) least)) least b ∙ sym s)
+    ap (least_from least goal) (drop_item ts i x h e)
+    ∙ least_cons least goal x (drop (i + 1) ts)
+    ∙ ap (λ (o : Option ℕ). least_from o goal (drop (i + 1) ts)) (chosen_if (wants x goal) (Some (least_with (depth_for x) least)) least b ∙ sym s)
 
 pub least_next : (least now : Option ℕ) (goal : Rule) (ts : List Thread) (i : ℕ) (x : Thread) → i < length ts → x ≡ get_or ts i x → wants x goal ≡ false
-  → now ≡ least → least_from least goal (drop i ts) ≡ least_from now goal (drop (i + 1) ts)
+    → now ≡ least → least_from least goal (drop i ts) ≡ least_from now goal (drop (i + 1) ts)
 least_next least now goal ts i x h e b s =
-  ap (least_from least goal) (drop_item ts i x h e)
-  ∙ least_cons least goal x (drop (i + 1) ts)
-  ∙ ap (λ (o : Option ℕ). least_from o goal (drop (i + 1) ts)) (chosen_else (wants x goal) (Some (least_with (depth_for x) least)) least b ∙ sym s)
+    ap (least_from least goal) (drop_item ts i x h e)
+    ∙ least_cons least goal x (drop (i + 1) ts)
+    ∙ ap (λ (o : Option ℕ). least_from o goal (drop (i + 1) ts)) (chosen_else (wants x goal) (Some (least_with (depth_for x) least)) least b ∙ sym s)
 
 pub least_end : (least : Option ℕ) (goal : Rule) (ts : List Thread) (i : ℕ) → i ≡ length ts → least_from least goal (drop i ts) ≡ least
 unfolding least_from
@@ -65,7 +65,7 @@ unfolding is_among
 among_here ts t i x h e b = rw (drop_item ts i x h e, b) refl
 
 pub among_next : (ts : List Thread) (t : Thread) (i : ℕ) (x : Thread) → i < length ts → x ≡ get_or ts i x → same_future x t ≡ false
-  → is_among (drop i ts) t ≡ is_among (drop (i + 1) ts) t
+    → is_among (drop i ts) t ≡ is_among (drop (i + 1) ts) t
 unfolding is_among
 among_next ts t i x h e b = rw (drop_item ts i x h e, b) refl
 
@@ -74,12 +74,12 @@ unfolding is_among
 among_end ts t i e = rw (e, drop_end ts) refl
 
 pub result_here : (fs : List Finished) (goal : Rule) (i : ℕ) (d : Finished) → i < length fs → is_rule (get_or fs i d).goal goal ≡ true
-  → result_for (drop i fs) goal ≡ Some (get_or fs i d).height
+    → result_for (drop i fs) goal ≡ Some (get_or fs i d).height
 unfolding result_for
 result_here fs goal i d h b = rw (drop_step fs i d h, b) refl
 
 pub result_next : (fs : List Finished) (goal : Rule) (i : ℕ) (d : Finished) → i < length fs → is_rule (get_or fs i d).goal goal ≡ false
-  → result_for (drop i fs) goal ≡ result_for (drop (i + 1) fs) goal
+    → result_for (drop i fs) goal ≡ result_for (drop (i + 1) fs) goal
 unfolding result_for
 result_next fs goal i d h b = rw (drop_step fs i d h, b) refl
 

@@ -7,4 +7,3 @@ pub mod Surveys
 pub mod Nodes
 pub mod Growth
 pub mod Grows
-pub mod Tokens

@@ -46,7 +46,7 @@ span_of tokens nodes kids = joined (span_at tokens nodes (slice_get kids 0)) (sp
 unfoldable pub with_node : List Token → Rule → ℕ → Parts → Parts
 with_node tokens r count p = record {
   nodes = p.nodes ++ (record { rule = r; span = span_of tokens p.nodes (drop (length p.kids - count) p.kids); kids = drop (length p.kids - count) p.kids }) ∷ [];
-  kids = take (length p.kids - count) p.kids ++ kid.Node (length p.nodes) ∷ []
+  kids = take (length p.kids - count) p.kids ++ kid.Node (length p.nodes) ∷ [];
 }
 
 -- a token joins what the innermost node holds

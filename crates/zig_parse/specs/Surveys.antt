@@ -74,7 +74,7 @@ judged verdict.TooDeep more kind at = Err (TooDeep at)
 unfoldable pub surveyed : ℕ → ℕ → List Token → State → List Bool → Result (List Bool) SyntaxFault
 surveyed zero at tokens s marks = Ok marks
 surveyed (suc n) at tokens s marks =
-  judged (next_verdict (look_at tokens at) at s)
+    judged (next_verdict (look_at tokens at) at s)
     (surveyed n (at + 1) tokens (next_state (look_at tokens at) at s) (next_marks (look_at tokens at) at s marks))
     (look_at tokens at).kind at
 

@@ -80,7 +80,7 @@ unfoldable pub hardened : Frame → Thread → Thread
 hardened f t = record t {
   frames = with_first (record f { solid = true }) t.frames;
   depth = one_more t.depth;
-  deep = t.deep || is_deep (one_more t.depth) f.height
+  deep = t.deep || is_deep (one_more t.depth) f.height;
 }
 
 -- a rule begins in the innermost node: as a second part it makes it a node
@@ -95,7 +95,7 @@ met r t = met_from r t t.frames
 unfoldable pub opened : Rule → Thread → Thread
 opened r t = record t {
   frames = (record { rule = r; parts = 0; height = 0; solid = not (collapses r) }) ∷ t.frames;
-  depth = if collapses r then t.depth else one_more t.depth
+  depth = if collapses r then t.depth else one_more t.depth;
 }
 
 -- a part that is to come where so many nodes are open

@@ -5,7 +5,6 @@ ghost use Rattle.zig_parse.specs.Nodes.{with_node, with_token};
 ghost use Rattle.zig_parse.specs.Nodes as spec;
 
 use std::alloc::{AllocError, Global};
-
 use zig_tree::{Kid, Node, Rule, Token};
 use zw_base::{Seq, Span};
 

@@ -5,7 +5,9 @@ ghost use Rattle.zig_tree.specs.Productions.{alternative};
 ghost use Rattle.zig_parse.specs.Choices.{choices, matching, offered};
 ghost use Rattle.zig_parse.specs.Choices as spec;
 
-use zig_tree::{Group, Part, Production, Rule, TokenKind, When, group_productions, rule_productions};
+use zig_tree::{
+    Group, Part, Production, Rule, TokenKind, When, group_productions, rule_productions,
+};
 
 /// The kinds of the next two tokens.
 #[derive(Clone, Copy, Debug)]

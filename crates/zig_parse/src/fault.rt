@@ -3,7 +3,6 @@ ghost use Rattle.std.specs.Prelude.{◌≡◌};
 ghost use Rattle.zig_parse.specs.declared.fault.SyntaxFault.TheVariants.{OutOfMemory};
 
 use std::alloc::{AllocError, AllocFailed};
-
 use zig_tree::TokenKind;
 
 /// Why tokens have no tree. A token is named by its number in the list, from 0.

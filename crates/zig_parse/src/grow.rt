@@ -6,11 +6,6 @@ ghost use Rattle.zig_parse.specs.Growth as spec;
 ghost use Rattle.zig_parse.specs.Grows.{grown};
 ghost use Rattle.zig_parse.specs.Surveys.{Gives};
 
-use std::alloc::{AllocError, Global};
-
-use zig_tree::{Part, Rule, Token, TokenKind, Tree};
-use zw_base::Seq;
-
 use crate::built::Built;
 use crate::choice::{Choice, Look, group_choice, rule_choice};
 use crate::fault::SyntaxFault;
@@ -18,6 +13,9 @@ use crate::settle::MOVES;
 use crate::state::look_at;
 use crate::survey::begin;
 use crate::thread::{Move, Thread};
+use std::alloc::{AllocError, Global};
+use zig_tree::{Part, Rule, Token, TokenKind, Tree};
+use zw_base::Seq;
 
 /// The one thread, and the nodes so far.
 #[derive(Debug, Drop)]
@@ -175,7 +173,12 @@ fn is_second(chosen: &[bool], at: u32) -> bool
 
 /// Reads all tokens.
 #[tactic(auto, using(crate::proofs::Tokens::read_steps))]
-fn read_all(growth: &mut Growth, tokens: &[Token], count: u32, chosen: &[bool]) -> Result<(), SyntaxFault>
+fn read_all(
+    growth: &mut Growth,
+    tokens: &[Token],
+    count: u32,
+    chosen: &[bool],
+) -> Result<(), SyntaxFault>
     requires { count ≡ length tokens.now }
     ensures { Gives (λ _. grown growth.new) result (spec.all_read (length tokens.now) 0 tokens.now chosen.now (grown growth.old)) }
 {
@@ -208,7 +211,12 @@ fn tree_of(built: Built, at: u32) -> Result<Tree, SyntaxFault>
 
 /// The tree of the tokens, where these alternatives are taken.
 #[tactic(auto, unfolding(crate::specs::Growth::grown_from))]
-pub fn grow(alloc: Global, tokens: &[Token], count: u32, chosen: &[bool]) -> Result<Tree, SyntaxFault>
+pub fn grow(
+    alloc: Global,
+    tokens: &[Token],
+    count: u32,
+    chosen: &[bool],
+) -> Result<Tree, SyntaxFault>
     requires { count ≡ length tokens.now }
     ensures nodes { Gives (λ t. t.nodes) result (spec.grown_from tokens.now chosen.now) }
     ensures root { IfOk result (λ t. t.root + 1 ≡ length t.nodes) }

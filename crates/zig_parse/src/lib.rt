@@ -20,3 +20,6 @@ mod thread;
 
 pub use fault::SyntaxFault;
 pub use parser::parse;
+
+#[cfg(test)]
+mod tests;

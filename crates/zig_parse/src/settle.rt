@@ -5,13 +5,11 @@ ghost use Rattle.zig_parse.specs.Moves.{moving, readers, settled};
 ghost use Rattle.zig_parse.specs.Moves as spec;
 ghost use Rattle.zig_parse.specs.Threads.{replaced};
 
-use std::alloc::{AllocError, Global};
-
-use zig_tree::{Part, Rule};
-
 use crate::choice::{Choice, Look, group_choice, rule_choice};
 use crate::stack::Stack;
 use crate::thread::{Move, Thread};
+use std::alloc::{AllocError, Global};
+use zig_tree::{Part, Rule};
 
 /// How many moves all threads together have at one token. The limit on depth keeps them far below it.
 pub const MOVES: u32 = 10_000_000;
@@ -75,7 +73,14 @@ fn advance(
             let _ = thread.close();
             pending.push(thread)
         }
-        Move::Rule(rule) => spread(alloc, thread, Some(rule), rule_choice(rule, look), at, pending),
+        Move::Rule(rule) => spread(
+            alloc,
+            thread,
+            Some(rule),
+            rule_choice(rule, look),
+            at,
+            pending,
+        ),
         Move::Group(group) => spread(alloc, thread, None, group_choice(group, look), at, pending),
     }
 }

@@ -26,7 +26,9 @@ impl<T> Stack<T> {
     pub fn new(alloc: Global) -> Stack<T>
         ensures { result ≡ [] }
     {
-        Stack { inner: Vec::new(alloc) }
+        Stack {
+            inner: Vec::new(alloc),
+        }
     }
 
     /// A list whose front is the front of the `Vec`.
@@ -87,6 +89,8 @@ impl<T: Copy> Stack<T> {
     pub fn copy(&self, alloc: Global) -> Result<Stack<T>, AllocError>
         ensures { IfOk result (λ s. s ≡ self.now) }
     {
-        Ok(Stack { inner: Vec::from_slice(alloc, self.inner.as_slice())? })
+        Ok(Stack {
+            inner: Vec::from_slice(alloc, self.inner.as_slice())?,
+        })
     }
 }

@@ -3,10 +3,6 @@ ghost use Rattle.std.specs.Prelude.{◌≡◌, ◌∷◌, IfOk, OnOk, false, len
 ghost use Rattle.zig_parse.specs.Surveys.{Gives, first_state, next_marks, next_state, next_verdict, surveyed};
 ghost use Rattle.zig_parse.specs.Surveys as spec;
 
-use std::alloc::{AllocError, Global};
-
-use zig_tree::{Rule, Token, TokenKind};
-
 use crate::choice::Look;
 use crate::fault::SyntaxFault;
 use crate::settle::settle;
@@ -16,6 +12,8 @@ use crate::survey::{
     settle_choices, those_waiting,
 };
 use crate::thread::Thread;
+use std::alloc::{AllocError, Global};
+use zig_tree::{Rule, Token, TokenKind};
 
 /// What is known after some tokens.
 #[derive(Debug, Drop)]

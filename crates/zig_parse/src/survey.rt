@@ -9,13 +9,11 @@ ghost use Rattle.zig_parse.specs.Passes.{all_marked, begun, begun_for, finished,
 ghost use Rattle.zig_parse.specs.Moves.{waits_for};
 ghost use Rattle.zig_parse.specs.Passes as spec;
 
-use std::alloc::{AllocError, Global};
-
-use zig_tree::{Rule, TokenKind, same_kind, same_rule};
-
 use crate::choice::{Choice, Look, rule_choice};
 use crate::stack::Stack;
 use crate::thread::{LIMIT, Thread, same_future};
+use std::alloc::{AllocError, Global};
+use zig_tree::{Rule, TokenKind, same_kind, same_rule};
 
 /// What became of the tokens so far.
 #[derive(Clone, Copy, Debug)]

@@ -6,12 +6,10 @@ ghost use Rattle.zig_parse.specs.Moves as moves;
 ghost use Rattle.zig_parse.specs.Threads.{after_read, closed, fresh, hardened, is_deep, met, opened, received, replaced, risen, with_gain, with_part};
 ghost use Rattle.zig_parse.specs.Threads as threads;
 
-use std::alloc::{AllocError, Global};
-
-use zig_tree::{Part, Rule, TokenKind, same_part};
-
 use crate::choice::Look;
 use crate::stack::Stack;
+use std::alloc::{AllocError, Global};
+use zig_tree::{Part, Rule, TokenKind, same_part};
 
 /// No node of a tree lies deeper than this; the root lies at 1.
 pub const LIMIT: u32 = 200;
@@ -197,10 +195,12 @@ impl Thread {
         ensures { result ≡ moves.waits_for self.now }
     {
         match self.items.top() {
-            Some(Item {
-                part: Part::Rule(rule),
-                ..
-            }) => Some(rule),
+            Some(
+                Item {
+                    part: Part::Rule(rule),
+                    ..
+                },
+            ) => Some(rule),
             _ => None,
         }
     }

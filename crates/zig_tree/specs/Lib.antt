@@ -4,5 +4,6 @@ pub mod TokenTables
 pub mod Tokens
 pub mod Kinds
 pub mod Grammar
+pub mod GrammarSentences
 pub mod Productions
 pub mod Nodes

@@ -403,11 +403,7 @@ pub fn same_part(a: Part, b: Part) -> bool
 fn is_const_or_var(kind: TokenKind) -> bool
     ensures { result ≡ spec.is_const_or_var kind }
 {
-    matches!(
-        kind,
-        TokenKind::KeywordConst
-            | TokenKind::KeywordVar
-    )
+    matches!(kind, TokenKind::KeywordConst | TokenKind::KeywordVar)
 }
 
 /// A name or the bare `_`.
@@ -415,11 +411,7 @@ fn is_const_or_var(kind: TokenKind) -> bool
 fn is_name_word(kind: TokenKind) -> bool
     ensures { result ≡ spec.is_name_word kind }
 {
-    matches!(
-        kind,
-        TokenKind::Identifier
-            | TokenKind::Underscore
-    )
+    matches!(kind, TokenKind::Identifier | TokenKind::Underscore)
 }
 
 /// `=` or a binary operator with `=`.
@@ -473,10 +465,7 @@ fn is_bit_operator(kind: TokenKind) -> bool
 {
     matches!(
         kind,
-        TokenKind::Ampersand
-            | TokenKind::Caret
-            | TokenKind::Pipe
-            | TokenKind::KeywordOrelse
+        TokenKind::Ampersand | TokenKind::Caret | TokenKind::Pipe | TokenKind::KeywordOrelse
     )
 }
 
@@ -548,11 +537,7 @@ fn is_prefix_operator(kind: TokenKind) -> bool
 fn is_pointer_mark(kind: TokenKind) -> bool
     ensures { result ≡ spec.is_pointer_mark kind }
 {
-    matches!(
-        kind,
-        TokenKind::Asterisk
-            | TokenKind::AsteriskAsterisk
-    )
+    matches!(kind, TokenKind::Asterisk | TokenKind::AsteriskAsterisk)
 }
 
 /// A token that is an atom by itself.
@@ -578,9 +563,7 @@ fn is_container_word(kind: TokenKind) -> bool
 {
     matches!(
         kind,
-        TokenKind::KeywordStruct
-            | TokenKind::KeywordEnum
-            | TokenKind::KeywordUnion
+        TokenKind::KeywordStruct | TokenKind::KeywordEnum | TokenKind::KeywordUnion
     )
 }
 
@@ -591,9 +574,7 @@ fn is_capture_start(kind: TokenKind) -> bool
 {
     matches!(
         kind,
-        TokenKind::Asterisk
-            | TokenKind::Identifier
-            | TokenKind::Underscore
+        TokenKind::Asterisk | TokenKind::Identifier | TokenKind::Underscore
     )
 }
 
@@ -604,9 +585,7 @@ fn is_parameter_start(kind: TokenKind) -> bool
 {
     matches!(
         kind,
-        TokenKind::KeywordComptime
-            | TokenKind::Identifier
-            | TokenKind::Underscore
+        TokenKind::KeywordComptime | TokenKind::Identifier | TokenKind::Underscore
     )
 }
 
@@ -777,7 +756,8 @@ impl When {
             When::Always => true,
             When::Is(wanted) => same_kind(wanted, kind),
             When::In(class) => class.has(kind),
-            When::Label => same_kind(kind, TokenKind::Identifier) && same_kind(next, TokenKind::Colon),
+            When::Label => same_kind(kind, TokenKind::Identifier)
+                && same_kind(next, TokenKind::Colon),
             When::Both(wanted) => same_kind(wanted, kind),
         }
     }

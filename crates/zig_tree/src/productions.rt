@@ -1,18 +1,63 @@
 // The rules of the grammar, in the order of their numbers, and their groups: one alternative a row.
 //
-// An optional part is a group whose first alternatives are taken where the next token can begin the
-// part, whatever comes later, and whose last one is empty. Two alternatives may be taken at one token
-// in four places alone, marked `When::Both`: a block or a switch that leads a statement may be the
-// whole of it or its first operand, a name that leads one may be a label, a dot in the values of a
-// container may lead a name, and `enum` in the tag of a union may be a type.
+// A row has the next tokens at which it is taken, and then its parts: `T` a token, `C` a token of a
+// class, `R` what a rule derives, `G` what a group derives. An optional part is a group whose first
+// alternatives are taken where the next token can begin the part, whatever comes later, and whose last
+// one is empty. Two alternatives may be taken at one token in a few places alone, marked `Both`: a block
+// or a switch that leads a statement may be the whole of it or its first operand, a name that leads one
+// may be a label, a dot in the values of a container may lead a name, and `enum` in the tag of a union
+// may be a type.
 ghost use Rattle.std.specs.Prelude.{◌≡◌, map};
 ghost use Rattle.zig_tree.specs.Grammar.{group_rows, rule_rows};
 ghost use Rattle.zig_tree.specs.Productions.{alternative};
 
-use crate::grammar::Part::{Group as G, OneOf as C, Rule as R, Token as T};
-use crate::grammar::TokenClass as Class;
-use crate::grammar::{Group, Production, Rule, When};
-use crate::token::TokenKind as Kind;
+use crate::grammar::{Group, Part, Production, Rule, TokenClass, When};
+use crate::token::TokenKind;
+
+/// A part as a row writes it.
+macro_rules! row_part {
+    (T $name:ident) => {
+        Part::Token(TokenKind::$name)
+    };
+    (C $name:ident) => {
+        Part::OneOf(TokenClass::$name)
+    };
+    (R $name:ident) => {
+        Part::Rule(Rule::$name)
+    };
+    (G $name:ident) => {
+        Part::Group(Group::$name)
+    };
+}
+
+/// The condition of a row.
+macro_rules! row_condition {
+    (Always) => {
+        When::Always
+    };
+    (Label) => {
+        When::Label
+    };
+    (Is $name:ident) => {
+        When::Is(TokenKind::$name)
+    };
+    (In $name:ident) => {
+        When::In(TokenClass::$name)
+    };
+    (Both $name:ident) => {
+        When::Both(TokenKind::$name)
+    };
+}
+
+/// Alternatives as rows.
+macro_rules! alternatives {
+    ($($when:ident $($on:ident)? => $($tag:ident $name:ident),*;)*) => {
+        &[$(Production {
+            when: row_condition!($when $($on)?),
+            parts: &[$(row_part!($tag $name)),*],
+        }),*]
+    };
+}
 
 /// The alternatives of a rule, in the order of preference.
 #[tactic(auto, unfolding(crate::specs::Grammar::rule_rows))]
@@ -21,197 +66,197 @@ pub fn rule_productions(of: Rule) -> &'static [Production]
 {
     match of {
         // 1
-        Rule::Root => &[
-            Production { when: When::Always, parts: &[G(Group::RootMembers), T(Kind::End)] },
-        ],
+        Rule::Root => alternatives! {
+            Always => G RootMembers, T End;
+        },
         // 2
-        Rule::Member => &[
-            Production { when: When::In(Class::DeclarationStart), parts: &[R(Rule::Declaration)] },
-            Production { when: When::Is(Kind::Identifier), parts: &[R(Rule::Field), G(Group::FieldEnd)] },
-        ],
+        Rule::Member => alternatives! {
+            In DeclarationStart => R Declaration;
+            Is Identifier => R Field, G FieldEnd;
+        },
         // 3
-        Rule::Field => &[
-            Production { when: When::Always, parts: &[T(Kind::Identifier), G(Group::TypeOption), G(Group::ValueOption)] },
-        ],
+        Rule::Field => alternatives! {
+            Always => T Identifier, G TypeOption, G ValueOption;
+        },
         // 4
-        Rule::Declaration => &[
-            Production { when: When::Is(Kind::KeywordComptime), parts: &[T(Kind::KeywordComptime), R(Rule::Block)] },
-            Production { when: When::Is(Kind::KeywordTest), parts: &[T(Kind::KeywordTest), G(Group::StringOption), R(Rule::Block)] },
-            Production { when: When::Always, parts: &[G(Group::PubOption), G(Group::Declared)] },
-        ],
+        Rule::Declaration => alternatives! {
+            Is KeywordComptime => T KeywordComptime, R Block;
+            Is KeywordTest => T KeywordTest, G StringOption, R Block;
+            Always => G PubOption, G Declared;
+        },
         // 5
-        Rule::Variable => &[
-            Production { when: When::Always, parts: &[C(Class::ConstOrVar), T(Kind::Identifier), G(Group::TypeOption), T(Kind::Equal), R(Rule::Or), T(Kind::Semicolon)] },
-        ],
+        Rule::Variable => alternatives! {
+            Always => C ConstOrVar, T Identifier, G TypeOption, T Equal, R Or, T Semicolon;
+        },
         // 6
-        Rule::Prototype => &[
-            Production { when: When::Always, parts: &[T(Kind::KeywordFn), T(Kind::Identifier), T(Kind::LeftParen), G(Group::Parameters), T(Kind::RightParen), G(Group::BangOption), R(Rule::TypeExpression)] },
-        ],
-        Rule::Function => &[
-            Production { when: When::Always, parts: &[R(Rule::Prototype), R(Rule::Block)] },
-        ],
+        Rule::Prototype => alternatives! {
+            Always => T KeywordFn, T Identifier, T LeftParen, G Parameters, T RightParen, G BangOption, R TypeExpression;
+        },
+        Rule::Function => alternatives! {
+            Always => R Prototype, R Block;
+        },
         // 7
-        Rule::Parameter => &[
-            Production { when: When::Always, parts: &[G(Group::ComptimeOption), C(Class::NameWord), T(Kind::Colon), G(Group::ParameterType)] },
-        ],
+        Rule::Parameter => alternatives! {
+            Always => G ComptimeOption, C NameWord, T Colon, G ParameterType;
+        },
         // 8
-        Rule::Block => &[
-            Production { when: When::Always, parts: &[T(Kind::LeftBrace), G(Group::Statements), T(Kind::RightBrace)] },
-        ],
+        Rule::Block => alternatives! {
+            Always => T LeftBrace, G Statements, T RightBrace;
+        },
         // 9
-        Rule::Statement => &[
-            Production { when: When::Is(Kind::KeywordConst), parts: &[R(Rule::Variable)] },
-            Production { when: When::Is(Kind::KeywordVar), parts: &[R(Rule::Variable)] },
-            Production { when: When::Is(Kind::KeywordComptime), parts: &[T(Kind::KeywordComptime), G(Group::ComptimeStatement)] },
-            Production { when: When::Is(Kind::KeywordDefer), parts: &[T(Kind::KeywordDefer), R(Rule::Body)] },
-            Production { when: When::Is(Kind::KeywordErrdefer), parts: &[T(Kind::KeywordErrdefer), G(Group::CaptureOption), R(Rule::Body)] },
-            Production { when: When::Always, parts: &[R(Rule::Body)] },
-        ],
+        Rule::Statement => alternatives! {
+            Is KeywordConst => R Variable;
+            Is KeywordVar => R Variable;
+            Is KeywordComptime => T KeywordComptime, G ComptimeStatement;
+            Is KeywordDefer => T KeywordDefer, R Body;
+            Is KeywordErrdefer => T KeywordErrdefer, G CaptureOption, R Body;
+            Always => R Body;
+        },
         // 10
-        Rule::Body => &[
-            Production { when: When::Is(Kind::KeywordIf), parts: &[R(Rule::IfStatement)] },
-            Production { when: When::Is(Kind::KeywordWhile), parts: &[R(Rule::WhileStatement)] },
-            Production { when: When::Is(Kind::KeywordFor), parts: &[R(Rule::ForStatement)] },
-            Production { when: When::Both(Kind::Identifier), parts: &[T(Kind::Identifier), T(Kind::Colon), G(Group::LabelledStatement)] },
-            Production { when: When::Both(Kind::LeftBrace), parts: &[R(Rule::Block)] },
-            Production { when: When::Both(Kind::KeywordSwitch), parts: &[R(Rule::Switch)] },
-            Production { when: When::Always, parts: &[R(Rule::Assignment), T(Kind::Semicolon)] },
-        ],
+        Rule::Body => alternatives! {
+            Is KeywordIf => R IfStatement;
+            Is KeywordWhile => R WhileStatement;
+            Is KeywordFor => R ForStatement;
+            Both Identifier => T Identifier, T Colon, G LabelledStatement;
+            Both LeftBrace => R Block;
+            Both KeywordSwitch => R Switch;
+            Always => R Assignment, T Semicolon;
+        },
         // 11
-        Rule::IfStatement => &[
-            Production { when: When::Always, parts: &[T(Kind::KeywordIf), T(Kind::LeftParen), R(Rule::Or), T(Kind::RightParen), G(Group::CaptureOption), R(Rule::Rest)] },
-        ],
-        Rule::WhileStatement => &[
-            Production { when: When::Always, parts: &[T(Kind::KeywordWhile), T(Kind::LeftParen), R(Rule::Or), T(Kind::RightParen), G(Group::CaptureOption), G(Group::ContinueOption), R(Rule::Rest)] },
-        ],
-        Rule::ForStatement => &[
-            Production { when: When::Always, parts: &[T(Kind::KeywordFor), T(Kind::LeftParen), R(Rule::ForArgument), G(Group::MoreForArguments), T(Kind::RightParen), T(Kind::Pipe), R(Rule::Captures), T(Kind::Pipe), R(Rule::Rest)] },
-        ],
+        Rule::IfStatement => alternatives! {
+            Always => T KeywordIf, T LeftParen, R Or, T RightParen, G CaptureOption, R Rest;
+        },
+        Rule::WhileStatement => alternatives! {
+            Always => T KeywordWhile, T LeftParen, R Or, T RightParen, G CaptureOption, G ContinueOption, R Rest;
+        },
+        Rule::ForStatement => alternatives! {
+            Always => T KeywordFor, T LeftParen, R ForArgument, G MoreForArguments, T RightParen, T Pipe, R Captures, T Pipe, R Rest;
+        },
         // 12
-        Rule::Rest => &[
-            Production { when: When::Both(Kind::LeftBrace), parts: &[R(Rule::Block), G(Group::ElseOption)] },
-            Production { when: When::Always, parts: &[R(Rule::Assignment), G(Group::RestEnd)] },
-        ],
+        Rule::Rest => alternatives! {
+            Both LeftBrace => R Block, G ElseOption;
+            Always => R Assignment, G RestEnd;
+        },
         // 13
-        Rule::ForArgument => &[
-            Production { when: When::Always, parts: &[R(Rule::Or), G(Group::RangeOption)] },
-        ],
-        Rule::Captures => &[
-            Production { when: When::Always, parts: &[G(Group::PointerOption), R(Rule::Name), G(Group::MoreCaptures)] },
-        ],
-        Rule::Capture => &[
-            Production { when: When::Always, parts: &[T(Kind::Pipe), G(Group::PointerOption), R(Rule::Name), T(Kind::Pipe)] },
-        ],
-        Rule::Name => &[
-            Production { when: When::Always, parts: &[C(Class::NameWord)] },
-        ],
+        Rule::ForArgument => alternatives! {
+            Always => R Or, G RangeOption;
+        },
+        Rule::Captures => alternatives! {
+            Always => G PointerOption, R Name, G MoreCaptures;
+        },
+        Rule::Capture => alternatives! {
+            Always => T Pipe, G PointerOption, R Name, T Pipe;
+        },
+        Rule::Name => alternatives! {
+            Always => C NameWord;
+        },
         // 14
-        Rule::Assignment => &[
-            Production { when: When::Is(Kind::Underscore), parts: &[T(Kind::Underscore), T(Kind::Equal), R(Rule::Or)] },
-            Production { when: When::Always, parts: &[R(Rule::Or), G(Group::AssignTail)] },
-        ],
+        Rule::Assignment => alternatives! {
+            Is Underscore => T Underscore, T Equal, R Or;
+            Always => R Or, G AssignTail;
+        },
         // 15
-        Rule::Or => &[
-            Production { when: When::Always, parts: &[R(Rule::And), G(Group::OrTail)] },
-        ],
-        Rule::And => &[
-            Production { when: When::Always, parts: &[R(Rule::Compare), G(Group::AndTail)] },
-        ],
-        Rule::Compare => &[
-            Production { when: When::Always, parts: &[R(Rule::Bit), G(Group::CompareTail)] },
-        ],
+        Rule::Or => alternatives! {
+            Always => R And, G OrTail;
+        },
+        Rule::And => alternatives! {
+            Always => R Compare, G AndTail;
+        },
+        Rule::Compare => alternatives! {
+            Always => R Bit, G CompareTail;
+        },
         // 16
-        Rule::Bit => &[
-            Production { when: When::Always, parts: &[R(Rule::Shift), G(Group::BitTail)] },
-        ],
-        Rule::Shift => &[
-            Production { when: When::Always, parts: &[R(Rule::Add), G(Group::ShiftTail)] },
-        ],
+        Rule::Bit => alternatives! {
+            Always => R Shift, G BitTail;
+        },
+        Rule::Shift => alternatives! {
+            Always => R Add, G ShiftTail;
+        },
         // 17
-        Rule::Add => &[
-            Production { when: When::Always, parts: &[R(Rule::Multiply), G(Group::AddTail)] },
-        ],
-        Rule::Multiply => &[
-            Production { when: When::Always, parts: &[R(Rule::Prefix), G(Group::MultiplyTail)] },
-        ],
+        Rule::Add => alternatives! {
+            Always => R Multiply, G AddTail;
+        },
+        Rule::Multiply => alternatives! {
+            Always => R Prefix, G MultiplyTail;
+        },
         // 18
-        Rule::Prefix => &[
-            Production { when: When::In(Class::PrefixOperator), parts: &[C(Class::PrefixOperator), G(Group::MorePrefixes), R(Rule::Primary)] },
-            Production { when: When::Always, parts: &[R(Rule::Primary)] },
-        ],
+        Rule::Prefix => alternatives! {
+            In PrefixOperator => C PrefixOperator, G MorePrefixes, R Primary;
+            Always => R Primary;
+        },
         // 19
-        Rule::Primary => &[
-            Production { when: When::Is(Kind::KeywordIf), parts: &[R(Rule::IfExpression)] },
-            Production { when: When::Label, parts: &[T(Kind::Identifier), T(Kind::Colon), G(Group::LabelledExpression)] },
-            Production { when: When::Is(Kind::LeftBrace), parts: &[R(Rule::Block)] },
-            Production { when: When::Is(Kind::KeywordWhile), parts: &[R(Rule::WhileExpression)] },
-            Production { when: When::Is(Kind::KeywordFor), parts: &[R(Rule::ForExpression)] },
-            Production { when: When::Is(Kind::KeywordBreak), parts: &[T(Kind::KeywordBreak), G(Group::BreakLabel), G(Group::ExpressionOption)] },
-            Production { when: When::Is(Kind::KeywordContinue), parts: &[T(Kind::KeywordContinue), G(Group::BreakLabel)] },
-            Production { when: When::Is(Kind::KeywordReturn), parts: &[T(Kind::KeywordReturn), G(Group::ExpressionOption)] },
-            Production { when: When::Is(Kind::KeywordComptime), parts: &[T(Kind::KeywordComptime), R(Rule::Or)] },
-            Production { when: When::In(Class::TypeStart), parts: &[R(Rule::TypeExpression), G(Group::InitializerOption)] },
-        ],
+        Rule::Primary => alternatives! {
+            Is KeywordIf => R IfExpression;
+            Label => T Identifier, T Colon, G LabelledExpression;
+            Is LeftBrace => R Block;
+            Is KeywordWhile => R WhileExpression;
+            Is KeywordFor => R ForExpression;
+            Is KeywordBreak => T KeywordBreak, G BreakLabel, G ExpressionOption;
+            Is KeywordContinue => T KeywordContinue, G BreakLabel;
+            Is KeywordReturn => T KeywordReturn, G ExpressionOption;
+            Is KeywordComptime => T KeywordComptime, R Or;
+            In TypeStart => R TypeExpression, G InitializerOption;
+        },
         // 20
-        Rule::IfExpression => &[
-            Production { when: When::Always, parts: &[T(Kind::KeywordIf), T(Kind::LeftParen), R(Rule::Or), T(Kind::RightParen), G(Group::CaptureOption), R(Rule::RestExpression)] },
-        ],
-        Rule::WhileExpression => &[
-            Production { when: When::Always, parts: &[T(Kind::KeywordWhile), T(Kind::LeftParen), R(Rule::Or), T(Kind::RightParen), G(Group::CaptureOption), G(Group::ContinueOption), R(Rule::RestExpression)] },
-        ],
-        Rule::ForExpression => &[
-            Production { when: When::Always, parts: &[T(Kind::KeywordFor), T(Kind::LeftParen), R(Rule::ForArgument), G(Group::MoreForArguments), T(Kind::RightParen), T(Kind::Pipe), R(Rule::Captures), T(Kind::Pipe), R(Rule::RestExpression)] },
-        ],
-        Rule::RestExpression => &[
-            Production { when: When::Always, parts: &[R(Rule::Or), G(Group::ElseExpression)] },
-        ],
+        Rule::IfExpression => alternatives! {
+            Always => T KeywordIf, T LeftParen, R Or, T RightParen, G CaptureOption, R RestExpression;
+        },
+        Rule::WhileExpression => alternatives! {
+            Always => T KeywordWhile, T LeftParen, R Or, T RightParen, G CaptureOption, G ContinueOption, R RestExpression;
+        },
+        Rule::ForExpression => alternatives! {
+            Always => T KeywordFor, T LeftParen, R ForArgument, G MoreForArguments, T RightParen, T Pipe, R Captures, T Pipe, R RestExpression;
+        },
+        Rule::RestExpression => alternatives! {
+            Always => R Or, G ElseExpression;
+        },
         // 21
-        Rule::TypeExpression => &[
-            Production { when: When::In(Class::TypePrefixStart), parts: &[R(Rule::TypePrefix), G(Group::MoreTypePrefixes), R(Rule::Suffix), G(Group::BangTypeOption)] },
-            Production { when: When::Always, parts: &[R(Rule::Suffix), G(Group::BangTypeOption)] },
-        ],
-        Rule::TypePrefix => &[
-            Production { when: When::Is(Kind::QuestionMark), parts: &[T(Kind::QuestionMark)] },
-            Production { when: When::In(Class::PointerMark), parts: &[C(Class::PointerMark), G(Group::ConstOption)] },
-            Production { when: When::Is(Kind::LeftBracket), parts: &[T(Kind::LeftBracket), G(Group::BracketPrefix)] },
-        ],
+        Rule::TypeExpression => alternatives! {
+            In TypePrefixStart => R TypePrefix, G MoreTypePrefixes, R Suffix, G BangTypeOption;
+            Always => R Suffix, G BangTypeOption;
+        },
+        Rule::TypePrefix => alternatives! {
+            Is QuestionMark => T QuestionMark;
+            In PointerMark => C PointerMark, G ConstOption;
+            Is LeftBracket => T LeftBracket, G BracketPrefix;
+        },
         // 22
-        Rule::Suffix => &[
-            Production { when: When::Always, parts: &[R(Rule::Atom), G(Group::SuffixTail)] },
-        ],
+        Rule::Suffix => alternatives! {
+            Always => R Atom, G SuffixTail;
+        },
         // 23
-        Rule::Atom => &[
-            Production { when: When::In(Class::AtomWord), parts: &[C(Class::AtomWord)] },
-            Production { when: When::Is(Kind::Period), parts: &[T(Kind::Period), G(Group::DotAtom)] },
-            Production { when: When::Is(Kind::KeywordError), parts: &[T(Kind::KeywordError), G(Group::ErrorAtom)] },
-            Production { when: When::Is(Kind::Builtin), parts: &[T(Kind::Builtin), T(Kind::LeftParen), G(Group::Arguments), T(Kind::RightParen)] },
-            Production { when: When::Is(Kind::LeftParen), parts: &[T(Kind::LeftParen), R(Rule::Or), T(Kind::RightParen)] },
-            Production { when: When::In(Class::ContainerWord), parts: &[R(Rule::Container)] },
-            Production { when: When::Is(Kind::KeywordSwitch), parts: &[R(Rule::Switch)] },
-        ],
+        Rule::Atom => alternatives! {
+            In AtomWord => C AtomWord;
+            Is Period => T Period, G DotAtom;
+            Is KeywordError => T KeywordError, G ErrorAtom;
+            Is Builtin => T Builtin, T LeftParen, G Arguments, T RightParen;
+            Is LeftParen => T LeftParen, R Or, T RightParen;
+            In ContainerWord => R Container;
+            Is KeywordSwitch => R Switch;
+        },
         // 24
-        Rule::Initializer => &[
-            Production { when: When::Always, parts: &[T(Kind::LeftBrace), G(Group::InitializerBody)] },
-        ],
+        Rule::Initializer => alternatives! {
+            Always => T LeftBrace, G InitializerBody;
+        },
         // 25
-        Rule::Container => &[
-            Production { when: When::Is(Kind::KeywordStruct), parts: &[T(Kind::KeywordStruct), R(Rule::ContainerBody)] },
-            Production { when: When::Is(Kind::KeywordEnum), parts: &[T(Kind::KeywordEnum), G(Group::TagOption), R(Rule::ContainerBody)] },
-            Production { when: When::Is(Kind::KeywordUnion), parts: &[T(Kind::KeywordUnion), T(Kind::LeftParen), G(Group::UnionTag), T(Kind::RightParen), R(Rule::ContainerBody)] },
-        ],
-        Rule::ContainerBody => &[
-            Production { when: When::Always, parts: &[T(Kind::LeftBrace), G(Group::Members), T(Kind::RightBrace)] },
-        ],
+        Rule::Container => alternatives! {
+            Is KeywordStruct => T KeywordStruct, R ContainerBody;
+            Is KeywordEnum => T KeywordEnum, G TagOption, R ContainerBody;
+            Is KeywordUnion => T KeywordUnion, T LeftParen, G UnionTag, T RightParen, R ContainerBody;
+        },
+        Rule::ContainerBody => alternatives! {
+            Always => T LeftBrace, G Members, T RightBrace;
+        },
         // 26
-        Rule::Switch => &[
-            Production { when: When::Always, parts: &[T(Kind::KeywordSwitch), T(Kind::LeftParen), R(Rule::Or), T(Kind::RightParen), T(Kind::LeftBrace), G(Group::Prongs), T(Kind::RightBrace)] },
-        ],
-        Rule::Prong => &[
-            Production { when: When::Always, parts: &[G(Group::ProngHead), T(Kind::EqualAngleRight), G(Group::CaptureOption), R(Rule::Assignment)] },
-        ],
-        Rule::Item => &[
-            Production { when: When::Always, parts: &[R(Rule::Or), G(Group::ItemRange)] },
-        ],
+        Rule::Switch => alternatives! {
+            Always => T KeywordSwitch, T LeftParen, R Or, T RightParen, T LeftBrace, G Prongs, T RightBrace;
+        },
+        Rule::Prong => alternatives! {
+            Always => G ProngHead, T EqualAngleRight, G CaptureOption, R Assignment;
+        },
+        Rule::Item => alternatives! {
+            Always => R Or, G ItemRange;
+        },
     }
 }
 
@@ -221,266 +266,266 @@ pub fn group_productions(of: Group) -> &'static [Production]
     ensures { map alternative result.now ≡ group_rows of }
 {
     match of {
-        Group::RootMembers => &[
-            Production { when: When::In(Class::DeclarationStart), parts: &[R(Rule::Member), G(Group::RootMembers)] },
-            Production { when: When::Always, parts: &[] },
-        ],
-        Group::Members => &[
-            Production { when: When::In(Class::MemberStart), parts: &[R(Rule::Member), G(Group::Members)] },
-            Production { when: When::Always, parts: &[] },
-        ],
-        Group::FieldEnd => &[
-            Production { when: When::Is(Kind::Comma), parts: &[T(Kind::Comma)] },
-            Production { when: When::Is(Kind::RightBrace), parts: &[] },
-        ],
-        Group::TypeOption => &[
-            Production { when: When::Is(Kind::Colon), parts: &[T(Kind::Colon), R(Rule::TypeExpression)] },
-            Production { when: When::Always, parts: &[] },
-        ],
-        Group::ValueOption => &[
-            Production { when: When::Is(Kind::Equal), parts: &[T(Kind::Equal), R(Rule::Or)] },
-            Production { when: When::Always, parts: &[] },
-        ],
-        Group::StringOption => &[
-            Production { when: When::Is(Kind::Str), parts: &[T(Kind::Str)] },
-            Production { when: When::Always, parts: &[] },
-        ],
-        Group::PubOption => &[
-            Production { when: When::Is(Kind::KeywordPub), parts: &[T(Kind::KeywordPub)] },
-            Production { when: When::Always, parts: &[] },
-        ],
-        Group::Declared => &[
-            Production { when: When::Is(Kind::KeywordConst), parts: &[R(Rule::Variable)] },
-            Production { when: When::Is(Kind::KeywordVar), parts: &[R(Rule::Variable)] },
-            Production { when: When::Is(Kind::KeywordExport), parts: &[T(Kind::KeywordExport), R(Rule::Function)] },
-            Production { when: When::Is(Kind::KeywordFn), parts: &[R(Rule::Function)] },
-            Production { when: When::Is(Kind::KeywordExtern), parts: &[T(Kind::KeywordExtern), G(Group::StringOption), R(Rule::Prototype), T(Kind::Semicolon)] },
-        ],
-        Group::Parameters => &[
-            Production { when: When::In(Class::ParameterStart), parts: &[R(Rule::Parameter), G(Group::MoreParameters)] },
-            Production { when: When::Always, parts: &[] },
-        ],
-        Group::MoreParameters => &[
-            Production { when: When::Is(Kind::Comma), parts: &[T(Kind::Comma), G(Group::Parameters)] },
-            Production { when: When::Always, parts: &[] },
-        ],
-        Group::BangOption => &[
-            Production { when: When::Is(Kind::Bang), parts: &[T(Kind::Bang)] },
-            Production { when: When::Always, parts: &[] },
-        ],
-        Group::ComptimeOption => &[
-            Production { when: When::Is(Kind::KeywordComptime), parts: &[T(Kind::KeywordComptime)] },
-            Production { when: When::Always, parts: &[] },
-        ],
-        Group::ParameterType => &[
-            Production { when: When::Is(Kind::KeywordAnytype), parts: &[T(Kind::KeywordAnytype)] },
-            Production { when: When::Always, parts: &[R(Rule::TypeExpression)] },
-        ],
-        Group::Statements => &[
-            Production { when: When::In(Class::StatementStart), parts: &[R(Rule::Statement), G(Group::Statements)] },
-            Production { when: When::Always, parts: &[] },
-        ],
-        Group::ComptimeStatement => &[
-            Production { when: When::Is(Kind::KeywordConst), parts: &[R(Rule::Variable)] },
-            Production { when: When::Is(Kind::KeywordVar), parts: &[R(Rule::Variable)] },
-            Production { when: When::Always, parts: &[R(Rule::Body)] },
-        ],
-        Group::LabelledStatement => &[
-            Production { when: When::Is(Kind::KeywordWhile), parts: &[R(Rule::WhileStatement)] },
-            Production { when: When::Is(Kind::KeywordFor), parts: &[R(Rule::ForStatement)] },
-            Production { when: When::Is(Kind::LeftBrace), parts: &[R(Rule::Block)] },
-        ],
-        Group::ContinueOption => &[
-            Production { when: When::Is(Kind::Colon), parts: &[T(Kind::Colon), T(Kind::LeftParen), R(Rule::Assignment), T(Kind::RightParen)] },
-            Production { when: When::Always, parts: &[] },
-        ],
-        Group::MoreForArguments => &[
-            Production { when: When::Is(Kind::Comma), parts: &[T(Kind::Comma), G(Group::ForArguments)] },
-            Production { when: When::Always, parts: &[] },
-        ],
-        Group::ForArguments => &[
-            Production { when: When::In(Class::ExpressionStart), parts: &[R(Rule::ForArgument), G(Group::MoreForArguments)] },
-            Production { when: When::Always, parts: &[] },
-        ],
-        Group::ElseOption => &[
-            Production { when: When::Is(Kind::KeywordElse), parts: &[T(Kind::KeywordElse), G(Group::CaptureOption), R(Rule::Body)] },
-            Production { when: When::Always, parts: &[] },
-        ],
-        Group::RestEnd => &[
-            Production { when: When::Is(Kind::Semicolon), parts: &[T(Kind::Semicolon)] },
-            Production { when: When::Is(Kind::KeywordElse), parts: &[T(Kind::KeywordElse), G(Group::CaptureOption), R(Rule::Body)] },
-        ],
-        Group::RangeOption => &[
-            Production { when: When::Is(Kind::Ellipsis2), parts: &[T(Kind::Ellipsis2), G(Group::ExpressionOption)] },
-            Production { when: When::Always, parts: &[] },
-        ],
-        Group::ExpressionOption => &[
-            Production { when: When::In(Class::ExpressionStart), parts: &[R(Rule::Or)] },
-            Production { when: When::Always, parts: &[] },
-        ],
-        Group::MoreCaptures => &[
-            Production { when: When::Is(Kind::Comma), parts: &[T(Kind::Comma), G(Group::FurtherCaptures)] },
-            Production { when: When::Always, parts: &[] },
-        ],
-        Group::FurtherCaptures => &[
-            Production { when: When::In(Class::CaptureStart), parts: &[G(Group::PointerOption), R(Rule::Name), G(Group::MoreCaptures)] },
-            Production { when: When::Always, parts: &[] },
-        ],
-        Group::PointerOption => &[
-            Production { when: When::Is(Kind::Asterisk), parts: &[T(Kind::Asterisk)] },
-            Production { when: When::Always, parts: &[] },
-        ],
-        Group::CaptureOption => &[
-            Production { when: When::Is(Kind::Pipe), parts: &[R(Rule::Capture)] },
-            Production { when: When::Always, parts: &[] },
-        ],
-        Group::AssignTail => &[
-            Production { when: When::In(Class::AssignOperator), parts: &[C(Class::AssignOperator), R(Rule::Or)] },
-            Production { when: When::Always, parts: &[] },
-        ],
-        Group::OrTail => &[
-            Production { when: When::Is(Kind::KeywordOr), parts: &[T(Kind::KeywordOr), R(Rule::And), G(Group::OrTail)] },
-            Production { when: When::Always, parts: &[] },
-        ],
-        Group::AndTail => &[
-            Production { when: When::Is(Kind::KeywordAnd), parts: &[T(Kind::KeywordAnd), R(Rule::Compare), G(Group::AndTail)] },
-            Production { when: When::Always, parts: &[] },
-        ],
-        Group::CompareTail => &[
-            Production { when: When::In(Class::CompareOperator), parts: &[C(Class::CompareOperator), R(Rule::Bit)] },
-            Production { when: When::Always, parts: &[] },
-        ],
-        Group::BitTail => &[
-            Production { when: When::In(Class::BitOperator), parts: &[C(Class::BitOperator), R(Rule::Shift), G(Group::BitTail)] },
-            Production { when: When::Is(Kind::KeywordCatch), parts: &[T(Kind::KeywordCatch), G(Group::CaptureOption), R(Rule::Shift), G(Group::BitTail)] },
-            Production { when: When::Always, parts: &[] },
-        ],
-        Group::ShiftTail => &[
-            Production { when: When::In(Class::ShiftOperator), parts: &[C(Class::ShiftOperator), R(Rule::Add), G(Group::ShiftTail)] },
-            Production { when: When::Always, parts: &[] },
-        ],
-        Group::AddTail => &[
-            Production { when: When::In(Class::AddOperator), parts: &[C(Class::AddOperator), R(Rule::Multiply), G(Group::AddTail)] },
-            Production { when: When::Always, parts: &[] },
-        ],
-        Group::MultiplyTail => &[
-            Production { when: When::In(Class::MultiplyOperator), parts: &[C(Class::MultiplyOperator), R(Rule::Prefix), G(Group::MultiplyTail)] },
-            Production { when: When::Always, parts: &[] },
-        ],
-        Group::MorePrefixes => &[
-            Production { when: When::In(Class::PrefixOperator), parts: &[C(Class::PrefixOperator), G(Group::MorePrefixes)] },
-            Production { when: When::Always, parts: &[] },
-        ],
-        Group::LabelledExpression => &[
-            Production { when: When::Is(Kind::LeftBrace), parts: &[R(Rule::Block)] },
-            Production { when: When::Is(Kind::KeywordWhile), parts: &[R(Rule::WhileExpression)] },
-            Production { when: When::Is(Kind::KeywordFor), parts: &[R(Rule::ForExpression)] },
-        ],
-        Group::BreakLabel => &[
-            Production { when: When::Is(Kind::Colon), parts: &[T(Kind::Colon), T(Kind::Identifier)] },
-            Production { when: When::Always, parts: &[] },
-        ],
-        Group::InitializerOption => &[
-            Production { when: When::Is(Kind::LeftBrace), parts: &[R(Rule::Initializer)] },
-            Production { when: When::Always, parts: &[] },
-        ],
-        Group::ElseExpression => &[
-            Production { when: When::Is(Kind::KeywordElse), parts: &[T(Kind::KeywordElse), G(Group::CaptureOption), R(Rule::Or)] },
-            Production { when: When::Always, parts: &[] },
-        ],
-        Group::MoreTypePrefixes => &[
-            Production { when: When::In(Class::TypePrefixStart), parts: &[R(Rule::TypePrefix), G(Group::MoreTypePrefixes)] },
-            Production { when: When::Always, parts: &[] },
-        ],
-        Group::BangTypeOption => &[
-            Production { when: When::Is(Kind::Bang), parts: &[T(Kind::Bang), R(Rule::TypeExpression)] },
-            Production { when: When::Always, parts: &[] },
-        ],
-        Group::ConstOption => &[
-            Production { when: When::Is(Kind::KeywordConst), parts: &[T(Kind::KeywordConst)] },
-            Production { when: When::Always, parts: &[] },
-        ],
-        Group::BracketPrefix => &[
-            Production { when: When::Is(Kind::RightBracket), parts: &[T(Kind::RightBracket), G(Group::ConstOption)] },
-            Production { when: When::Is(Kind::Underscore), parts: &[T(Kind::Underscore), T(Kind::RightBracket)] },
-            Production { when: When::Always, parts: &[R(Rule::Or), T(Kind::RightBracket)] },
-        ],
-        Group::SuffixTail => &[
-            Production { when: When::Is(Kind::Period), parts: &[T(Kind::Period), T(Kind::Identifier), G(Group::SuffixTail)] },
-            Production { when: When::Is(Kind::PeriodAsterisk), parts: &[T(Kind::PeriodAsterisk), G(Group::SuffixTail)] },
-            Production { when: When::Is(Kind::PeriodQuestionMark), parts: &[T(Kind::PeriodQuestionMark), G(Group::SuffixTail)] },
-            Production { when: When::Is(Kind::LeftBracket), parts: &[T(Kind::LeftBracket), R(Rule::Or), G(Group::RangeOption), T(Kind::RightBracket), G(Group::SuffixTail)] },
-            Production { when: When::Is(Kind::LeftParen), parts: &[T(Kind::LeftParen), G(Group::Arguments), T(Kind::RightParen), G(Group::SuffixTail)] },
-            Production { when: When::Always, parts: &[] },
-        ],
-        Group::Arguments => &[
-            Production { when: When::In(Class::ExpressionStart), parts: &[R(Rule::Or), G(Group::MoreArguments)] },
-            Production { when: When::Always, parts: &[] },
-        ],
-        Group::MoreArguments => &[
-            Production { when: When::Is(Kind::Comma), parts: &[T(Kind::Comma), G(Group::Arguments)] },
-            Production { when: When::Always, parts: &[] },
-        ],
-        Group::DotAtom => &[
-            Production { when: When::Is(Kind::Identifier), parts: &[T(Kind::Identifier)] },
-            Production { when: When::Is(Kind::LeftBrace), parts: &[R(Rule::Initializer)] },
-        ],
-        Group::ErrorAtom => &[
-            Production { when: When::Is(Kind::Period), parts: &[T(Kind::Period), T(Kind::Identifier)] },
-            Production { when: When::Is(Kind::LeftBrace), parts: &[T(Kind::LeftBrace), G(Group::ErrorNames), T(Kind::RightBrace)] },
-        ],
-        Group::ErrorNames => &[
-            Production { when: When::Is(Kind::Identifier), parts: &[T(Kind::Identifier), G(Group::MoreErrorNames)] },
-            Production { when: When::Always, parts: &[] },
-        ],
-        Group::MoreErrorNames => &[
-            Production { when: When::Is(Kind::Comma), parts: &[T(Kind::Comma), G(Group::ErrorNames)] },
-            Production { when: When::Always, parts: &[] },
-        ],
-        Group::InitializerBody => &[
-            Production { when: When::Is(Kind::RightBrace), parts: &[T(Kind::RightBrace)] },
-            Production { when: When::Both(Kind::Period), parts: &[T(Kind::Period), T(Kind::Identifier), T(Kind::Equal), R(Rule::Or), G(Group::MoreFields), T(Kind::RightBrace)] },
-            Production { when: When::Always, parts: &[R(Rule::Or), G(Group::MoreArguments), T(Kind::RightBrace)] },
-        ],
-        Group::MoreFields => &[
-            Production { when: When::Is(Kind::Comma), parts: &[T(Kind::Comma), G(Group::FurtherFields)] },
-            Production { when: When::Always, parts: &[] },
-        ],
-        Group::FurtherFields => &[
-            Production { when: When::Is(Kind::Period), parts: &[T(Kind::Period), T(Kind::Identifier), T(Kind::Equal), R(Rule::Or), G(Group::MoreFields)] },
-            Production { when: When::Always, parts: &[] },
-        ],
-        Group::TagOption => &[
-            Production { when: When::Is(Kind::LeftParen), parts: &[T(Kind::LeftParen), R(Rule::Or), T(Kind::RightParen)] },
-            Production { when: When::Always, parts: &[] },
-        ],
-        Group::UnionTag => &[
-            Production { when: When::Both(Kind::KeywordEnum), parts: &[T(Kind::KeywordEnum)] },
-            Production { when: When::Always, parts: &[R(Rule::Or)] },
-        ],
-        Group::Prongs => &[
-            Production { when: When::In(Class::ProngStart), parts: &[R(Rule::Prong), G(Group::MoreProngs)] },
-            Production { when: When::Always, parts: &[] },
-        ],
-        Group::MoreProngs => &[
-            Production { when: When::Is(Kind::Comma), parts: &[T(Kind::Comma), G(Group::Prongs)] },
-            Production { when: When::Always, parts: &[] },
-        ],
-        Group::ProngHead => &[
-            Production { when: When::Is(Kind::KeywordElse), parts: &[T(Kind::KeywordElse)] },
-            Production { when: When::Always, parts: &[R(Rule::Item), G(Group::MoreItems)] },
-        ],
-        Group::MoreItems => &[
-            Production { when: When::Is(Kind::Comma), parts: &[T(Kind::Comma), G(Group::Items)] },
-            Production { when: When::Always, parts: &[] },
-        ],
-        Group::Items => &[
-            Production { when: When::In(Class::ExpressionStart), parts: &[R(Rule::Item), G(Group::MoreItems)] },
-            Production { when: When::Always, parts: &[] },
-        ],
-        Group::ItemRange => &[
-            Production { when: When::Is(Kind::Ellipsis3), parts: &[T(Kind::Ellipsis3), R(Rule::Or)] },
-            Production { when: When::Always, parts: &[] },
-        ],
+        Group::RootMembers => alternatives! {
+            In DeclarationStart => R Member, G RootMembers;
+            Always =>;
+        },
+        Group::Members => alternatives! {
+            In MemberStart => R Member, G Members;
+            Always =>;
+        },
+        Group::FieldEnd => alternatives! {
+            Is Comma => T Comma;
+            Is RightBrace =>;
+        },
+        Group::TypeOption => alternatives! {
+            Is Colon => T Colon, R TypeExpression;
+            Always =>;
+        },
+        Group::ValueOption => alternatives! {
+            Is Equal => T Equal, R Or;
+            Always =>;
+        },
+        Group::StringOption => alternatives! {
+            Is Str => T Str;
+            Always =>;
+        },
+        Group::PubOption => alternatives! {
+            Is KeywordPub => T KeywordPub;
+            Always =>;
+        },
+        Group::Declared => alternatives! {
+            Is KeywordConst => R Variable;
+            Is KeywordVar => R Variable;
+            Is KeywordExport => T KeywordExport, R Function;
+            Is KeywordFn => R Function;
+            Is KeywordExtern => T KeywordExtern, G StringOption, R Prototype, T Semicolon;
+        },
+        Group::Parameters => alternatives! {
+            In ParameterStart => R Parameter, G MoreParameters;
+            Always =>;
+        },
+        Group::MoreParameters => alternatives! {
+            Is Comma => T Comma, G Parameters;
+            Always =>;
+        },
+        Group::BangOption => alternatives! {
+            Is Bang => T Bang;
+            Always =>;
+        },
+        Group::ComptimeOption => alternatives! {
+            Is KeywordComptime => T KeywordComptime;
+            Always =>;
+        },
+        Group::ParameterType => alternatives! {
+            Is KeywordAnytype => T KeywordAnytype;
+            Always => R TypeExpression;
+        },
+        Group::Statements => alternatives! {
+            In StatementStart => R Statement, G Statements;
+            Always =>;
+        },
+        Group::ComptimeStatement => alternatives! {
+            Is KeywordConst => R Variable;
+            Is KeywordVar => R Variable;
+            Always => R Body;
+        },
+        Group::LabelledStatement => alternatives! {
+            Is KeywordWhile => R WhileStatement;
+            Is KeywordFor => R ForStatement;
+            Is LeftBrace => R Block;
+        },
+        Group::ContinueOption => alternatives! {
+            Is Colon => T Colon, T LeftParen, R Assignment, T RightParen;
+            Always =>;
+        },
+        Group::MoreForArguments => alternatives! {
+            Is Comma => T Comma, G ForArguments;
+            Always =>;
+        },
+        Group::ForArguments => alternatives! {
+            In ExpressionStart => R ForArgument, G MoreForArguments;
+            Always =>;
+        },
+        Group::ElseOption => alternatives! {
+            Is KeywordElse => T KeywordElse, G CaptureOption, R Body;
+            Always =>;
+        },
+        Group::RestEnd => alternatives! {
+            Is Semicolon => T Semicolon;
+            Is KeywordElse => T KeywordElse, G CaptureOption, R Body;
+        },
+        Group::RangeOption => alternatives! {
+            Is Ellipsis2 => T Ellipsis2, G ExpressionOption;
+            Always =>;
+        },
+        Group::ExpressionOption => alternatives! {
+            In ExpressionStart => R Or;
+            Always =>;
+        },
+        Group::MoreCaptures => alternatives! {
+            Is Comma => T Comma, G FurtherCaptures;
+            Always =>;
+        },
+        Group::FurtherCaptures => alternatives! {
+            In CaptureStart => G PointerOption, R Name, G MoreCaptures;
+            Always =>;
+        },
+        Group::PointerOption => alternatives! {
+            Is Asterisk => T Asterisk;
+            Always =>;
+        },
+        Group::CaptureOption => alternatives! {
+            Is Pipe => R Capture;
+            Always =>;
+        },
+        Group::AssignTail => alternatives! {
+            In AssignOperator => C AssignOperator, R Or;
+            Always =>;
+        },
+        Group::OrTail => alternatives! {
+            Is KeywordOr => T KeywordOr, R And, G OrTail;
+            Always =>;
+        },
+        Group::AndTail => alternatives! {
+            Is KeywordAnd => T KeywordAnd, R Compare, G AndTail;
+            Always =>;
+        },
+        Group::CompareTail => alternatives! {
+            In CompareOperator => C CompareOperator, R Bit;
+            Always =>;
+        },
+        Group::BitTail => alternatives! {
+            In BitOperator => C BitOperator, R Shift, G BitTail;
+            Is KeywordCatch => T KeywordCatch, G CaptureOption, R Shift, G BitTail;
+            Always =>;
+        },
+        Group::ShiftTail => alternatives! {
+            In ShiftOperator => C ShiftOperator, R Add, G ShiftTail;
+            Always =>;
+        },
+        Group::AddTail => alternatives! {
+            In AddOperator => C AddOperator, R Multiply, G AddTail;
+            Always =>;
+        },
+        Group::MultiplyTail => alternatives! {
+            In MultiplyOperator => C MultiplyOperator, R Prefix, G MultiplyTail;
+            Always =>;
+        },
+        Group::MorePrefixes => alternatives! {
+            In PrefixOperator => C PrefixOperator, G MorePrefixes;
+            Always =>;
+        },
+        Group::LabelledExpression => alternatives! {
+            Is LeftBrace => R Block;
+            Is KeywordWhile => R WhileExpression;
+            Is KeywordFor => R ForExpression;
+        },
+        Group::BreakLabel => alternatives! {
+            Is Colon => T Colon, T Identifier;
+            Always =>;
+        },
+        Group::InitializerOption => alternatives! {
+            Is LeftBrace => R Initializer;
+            Always =>;
+        },
+        Group::ElseExpression => alternatives! {
+            Is KeywordElse => T KeywordElse, G CaptureOption, R Or;
+            Always =>;
+        },
+        Group::MoreTypePrefixes => alternatives! {
+            In TypePrefixStart => R TypePrefix, G MoreTypePrefixes;
+            Always =>;
+        },
+        Group::BangTypeOption => alternatives! {
+            Is Bang => T Bang, R TypeExpression;
+            Always =>;
+        },
+        Group::ConstOption => alternatives! {
+            Is KeywordConst => T KeywordConst;
+            Always =>;
+        },
+        Group::BracketPrefix => alternatives! {
+            Is RightBracket => T RightBracket, G ConstOption;
+            Is Underscore => T Underscore, T RightBracket;
+            Always => R Or, T RightBracket;
+        },
+        Group::SuffixTail => alternatives! {
+            Is Period => T Period, T Identifier, G SuffixTail;
+            Is PeriodAsterisk => T PeriodAsterisk, G SuffixTail;
+            Is PeriodQuestionMark => T PeriodQuestionMark, G SuffixTail;
+            Is LeftBracket => T LeftBracket, R Or, G RangeOption, T RightBracket, G SuffixTail;
+            Is LeftParen => T LeftParen, G Arguments, T RightParen, G SuffixTail;
+            Always =>;
+        },
+        Group::Arguments => alternatives! {
+            In ExpressionStart => R Or, G MoreArguments;
+            Always =>;
+        },
+        Group::MoreArguments => alternatives! {
+            Is Comma => T Comma, G Arguments;
+            Always =>;
+        },
+        Group::DotAtom => alternatives! {
+            Is Identifier => T Identifier;
+            Is LeftBrace => R Initializer;
+        },
+        Group::ErrorAtom => alternatives! {
+            Is Period => T Period, T Identifier;
+            Is LeftBrace => T LeftBrace, G ErrorNames, T RightBrace;
+        },
+        Group::ErrorNames => alternatives! {
+            Is Identifier => T Identifier, G MoreErrorNames;
+            Always =>;
+        },
+        Group::MoreErrorNames => alternatives! {
+            Is Comma => T Comma, G ErrorNames;
+            Always =>;
+        },
+        Group::InitializerBody => alternatives! {
+            Is RightBrace => T RightBrace;
+            Both Period => T Period, T Identifier, T Equal, R Or, G MoreFields, T RightBrace;
+            Always => R Or, G MoreArguments, T RightBrace;
+        },
+        Group::MoreFields => alternatives! {
+            Is Comma => T Comma, G FurtherFields;
+            Always =>;
+        },
+        Group::FurtherFields => alternatives! {
+            Is Period => T Period, T Identifier, T Equal, R Or, G MoreFields;
+            Always =>;
+        },
+        Group::TagOption => alternatives! {
+            Is LeftParen => T LeftParen, R Or, T RightParen;
+            Always =>;
+        },
+        Group::UnionTag => alternatives! {
+            Both KeywordEnum => T KeywordEnum;
+            Always => R Or;
+        },
+        Group::Prongs => alternatives! {
+            In ProngStart => R Prong, G MoreProngs;
+            Always =>;
+        },
+        Group::MoreProngs => alternatives! {
+            Is Comma => T Comma, G Prongs;
+            Always =>;
+        },
+        Group::ProngHead => alternatives! {
+            Is KeywordElse => T KeywordElse;
+            Always => R Item, G MoreItems;
+        },
+        Group::MoreItems => alternatives! {
+            Is Comma => T Comma, G Items;
+            Always =>;
+        },
+        Group::Items => alternatives! {
+            In ExpressionStart => R Item, G MoreItems;
+            Always =>;
+        },
+        Group::ItemRange => alternatives! {
+            Is Ellipsis3 => T Ellipsis3, R Or;
+            Always =>;
+        },
     }
 }

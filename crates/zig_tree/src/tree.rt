@@ -2,9 +2,8 @@
 ghost use Rattle.std.specs.Prelude.{◌≡◌, ◌<◌, length};
 ghost use Rattle.zig_tree.specs.Nodes.{AreEarlier};
 
-use zw_base::{Seq, Span};
-
 use crate::grammar::Rule;
+use zw_base::{Seq, Span};
 
 /// What a node holds: a token, or another node, by its number in its list.
 #[derive(Clone, Copy, Debug, PartialEq, Eq)]

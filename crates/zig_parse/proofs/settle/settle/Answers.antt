@@ -8,5 +8,6 @@ loop-preserved c = settled_go _ _ _ _ _ _ c.in-Some.thread _ _ _ _ c.loop-test.t
 
 pub returns : goal.returns
 returns c = elim c.loop-test.branch [
-    else-loop-test w ↦ settled_out _ _ _ _ _ _ _ w.loop-test.false c.loop.invariant
-  | then-loop-test+in_default w ↦ settled_none _ _ _ _ _ _ w.in_default.ensures.0 c.loop.invariant ]
+  | else-loop-test w ↦ settled_out _ _ _ _ _ _ _ w.loop-test.false c.loop.invariant
+  | then-loop-test+in_default w ↦ settled_none _ _ _ _ _ _ w.in_default.ensures.0 c.loop.invariant
+]

@@ -6,7 +6,7 @@ abbrev pub invariant-loop-k : goal.invariant-loop-k
 invariant-loop-k l = record {
   here : l.self ≡ record l.fn.self { items = map (item l.level) (drop l.k l.parts) ++ l.fn.self.items };
   level : l.level ≡ length l.fn.self.frames;
-  low : l.k ≤ length l.parts
+  low : l.k ≤ length l.parts;
 }
 
 abbrev pub decreases-loop-k : goal.decreases-loop-k
