@@ -9,6 +9,8 @@
 mod encoder;
 mod module;
 mod parts;
+#[cfg(test)]
+mod tests;
 
 pub use encoder::{EncodeFault, encode};
 pub use module::{

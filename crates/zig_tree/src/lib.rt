@@ -5,6 +5,12 @@
 //! Public types: `TokenKind`, `Token`. The crate stands on `zw_base`.
 #![tactic(auto)]
 
+mod grammar;
+mod productions;
 mod token;
+mod tree;
 
+pub use grammar::{Group, Part, Production, Rule, TokenClass, When, same_kind, same_part, same_rule};
+pub use productions::{group_productions, rule_productions};
 pub use token::{Token, TokenKind};
+pub use tree::{Kid, Node, Tree};

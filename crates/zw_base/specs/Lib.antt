@@ -5,3 +5,5 @@ pub mod Plan
 pub mod HeldFiles
 pub mod SinkState
 pub mod Status
+pub mod Reading
+pub mod Hearing

@@ -33,8 +33,8 @@ path_fault text =
     else if list_all is_path_byte text then (if begins_badly text || list_any is_bad_part (parts text) then Some BadPart else None)
     else Some BadByte
 
--- a call's answer is the text's fault, or that it has none; want of memory is free
+-- a call's answer is the text's fault, or that it has none; want of memory comes only where it has none
 abbrev pub MeetsFault : {T : Type 0} → Result T PathFault → Option PathFault → Type 0
 MeetsFault (Ok _) fault = fault ≡ None
-MeetsFault (Err OutOfMemory) fault = Unit {0}
+MeetsFault (Err OutOfMemory) fault = fault ≡ None
 MeetsFault (Err e) fault = fault ≡ Some e

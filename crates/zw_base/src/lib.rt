@@ -1,23 +1,32 @@
 //! What every layer of zwatch shares: lists that contracts see as lists, places in a file, paths,
-//! diagnostic codes, and the outside (files that are read, a sink that is written) as traits.
+//! diagnostic codes, and the outside (files and a source that are read, a sink that is written,
+//! listeners that are told) as traits.
 //!
 //! The model: a path is the list of its bytes; a `Files` tells, where it can, a map from path to
-//! bytes; a `Sink` tells, where it can, the bytes that it has taken; each counts its faults.
-//! Public calls: `FilePath::of`, `Files::read`, `Sink::write`, and the objects in memory that meet
-//! those traits. The crate stands on `std` and `thiserror` alone.
+//! bytes; a `Source` tells, where it can, the bytes that are left, a `Sink` those that it has taken;
+//! a `Listener` has the list of reports that it has heard; each counts its faults.
+//! Public calls: `FilePath::of`, `Files::read`, `Source::read`, `Sink::write`, `Listener::told`, and
+//! the objects in memory that meet those traits. The crate stands on `std` and `thiserror` alone.
 #![tactic(auto)]
 
 mod diag;
 mod files;
+pub mod limits;
+mod listener;
 mod path;
 mod plan;
 mod seq;
 mod sink;
+mod source;
 mod status;
+#[cfg(test)]
+mod tests;
 
 pub use diag::{DiagCode, Found, Span};
 pub use files::{Fetched, Files, MemFiles, SureFiles};
+pub use listener::{Listener, MemListener, Outcome, Report};
 pub use path::{FilePath, FileSizes, FileTexts, PathFault};
 pub use seq::{Bytes, Seq};
 pub use sink::{Failed, MemSink, Sink, SureSink};
+pub use source::{MemSource, Source, SureSource};
 pub use status::{Status, Which};

@@ -10,6 +10,8 @@
 
 mod buffer;
 mod leb;
+#[cfg(test)]
+mod tests;
 
 pub use buffer::ByteBuf;
 pub use leb::one_form;

@@ -1,0 +1,1 @@
+export fn abc() u32 { return 4294967295; }

@@ -1,0 +1,1 @@
+export fn memory() u32 { return 1; }

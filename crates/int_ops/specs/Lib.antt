@@ -1,0 +1,5 @@
+pub mod IntType
+pub mod Division
+pub mod Bits
+pub mod Exact
+pub mod IntOut

@@ -1,0 +1,90 @@
+-- What a compilation answers: the files as they stand, from the root on.
+use Rattle.std.specs.Prelude.{◌≡◌, ℕ, ◌+◌, ◌*◌, ◌<◌, pos, Bool, true, false, if◌then◌else◌, nat_lt, List, [], ◌∷◌, length, map, codes, Option, None, Some}
+use Rattle.std.specs.Int.{w32, cast_signed}
+use Rattle.zw_base.specs.Outside.{file_at}
+use Rattle.zw_base.specs.declared.diag.DiagCode.TheVariants.{NotBuilt, RootMissing, ModuleTooLarge}
+use Rattle.zw_base.specs.declared.diag.DiagCode.{DiagCode}
+use Rattle.diag_order.specs.declared.line.Line.{Line}
+use Rattle.wasm_form.specs.declared.module.Module.{Module}
+use Rattle.wasm_form.specs.declared.module.FnType.{FnType}
+use Rattle.wasm_form.specs.declared.module.TypeIndex.{TypeIndex}
+use Rattle.wasm_form.specs.declared.module.Memory.{Memory}
+use Rattle.wasm_form.specs.declared.module.Global.{Global}
+use Rattle.wasm_form.specs.declared.module.Export.{Export}
+use Rattle.wasm_form.specs.declared.module.Code.{Code}
+use Rattle.wasm_form.specs.declared.module.ValType.TheVariants.{I32}
+use Rattle.wasm_form.specs.declared.module.Instr.TheVariants.{Return, I32Const}
+use Rattle.wasm_form.specs.declared.module.Exported.TheVariants as exported
+use Rattle.wasm_form.specs.Binary.{module_bytes}
+use Rattle.watch_core.specs.Form.{ConstFunction, built_of}
+use Rattle.watch_core.specs.declared.session.Update.{Update}
+use Rattle.watch_core.specs.declared.session.Update.TheVariants as update
+
+-- the code of a function that gives a constant
+abbrev pub code_of : ConstFunction → Code
+code_of f = record { locals = []; body = I32Const (cast_signed w32 f.value) ∷ Return ∷ [] }
+
+-- the types of functions that take nothing and give 32 bits
+abbrev pub types_of : List ConstFunction → List FnType
+types_of [] = []
+types_of (f ∷ fs) = record { params = []; result = Some I32 } ∷ []
+
+-- the shadow stack's pointer: it grows down from the end of sixteen pages, where data begins
+abbrev pub stack_pointer : Global
+stack_pointer = record { kind = I32; is_mutable = true; init = I32Const (pos 1048576) ∷ [] }
+
+-- functions under their names, the first with this index
+abbrev pub exports_from : ℕ → List ConstFunction → List Export
+exports_from index [] = []
+exports_from index (f ∷ fs) = record { name = f.name; what = exported.Function index } ∷ exports_from (index + 1) fs
+
+-- the module of these functions, in their order
+abbrev pub linked : List ConstFunction → Module
+linked fs = record {
+  types = types_of fs;
+  functions = map (λ _. record { 0 = 0 }) fs;
+  memories = record { min_pages = 16 } ∷ [];
+  globals = stack_pointer ∷ [];
+  exports = record { name = codes "memory"; what = exported.Memory 0 } ∷ exports_from 0 fs;
+  codes = map code_of fs;
+}
+
+-- What a compilation gives: diagnostics of the files before any unit is analysed; diagnostics of the linker
+-- after the units were; or a module's bytes.
+pub data Compiled : Type 0 where
+  Front : List Line → Compiled
+  Refused : List ConstFunction → List Line → Compiled
+  Linked : List ConstFunction → List ℕ → Compiled
+
+-- a diagnostic at the start of a file
+abbrev pub at_start : List ℕ → DiagCode → Line
+at_start path code = record { path = path; line = 1; col = 1; code = code; text = [] }
+
+-- the linker's answer for these functions
+abbrev pub link : List ℕ → List ConstFunction → Compiled
+link root fs =
+    if nat_lt 268435456 (length (module_bytes (linked fs))) then Refused fs (at_start root ModuleTooLarge ∷ [])
+    else Linked fs (module_bytes (linked fs))
+
+-- a form that is built goes to the linker; every other text is a form that is not built yet
+abbrev pub compile_form : List ℕ → Option ConstFunction → Compiled
+compile_form root None = Front (at_start root NotBuilt ∷ [])
+compile_form root (Some f) = link root (f ∷ [])
+
+abbrev pub compile_text : List ℕ → Option (List ℕ) → Compiled
+compile_text root None = Front (at_start root RootMissing ∷ [])
+compile_text root (Some text) = compile_form root (built_of text)
+
+-- the answer for the files, from the root on
+abbrev pub compile : List ℕ → List (List ℕ × List ℕ) → Compiled
+compile root files = compile_text root (file_at files root)
+
+-- how many units are analysed: of each function its declaration, its body and its code
+abbrev pub analysed : List ConstFunction → ℕ
+analysed fs = 3 * length fs
+
+-- what an update answers that reuses nothing
+abbrev pub update_of : Compiled → Update
+update_of (Front lines) = update.Errors lines 0 0
+update_of (Refused fs lines) = update.Errors lines (analysed fs) 0
+update_of (Linked fs bytes) = update.Module bytes (analysed fs) 0

@@ -1,0 +1,3 @@
+pub mod Form
+pub mod Compile
+pub mod SessionState

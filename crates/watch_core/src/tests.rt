@@ -1,0 +1,115 @@
+// A session's files and answers.
+use crate::{Session, SetFault, Update};
+use std::alloc::Global;
+use std::test::Fail;
+use zw_base::{DiagCode, FilePath, Which};
+
+fn session(alloc: Global) -> Result<Session, Fail> {
+    Ok(Session::open(alloc, FilePath::of(alloc, "m.zig")?, 4, 16, 1_048_576)?)
+}
+
+#[test]
+fn answers_for_the_files_as_they_stand(rt: HostRuntime) -> Result<(), Fail> {
+    let alloc = rt.alloc();
+    let mut session = session(alloc)?;
+    let Update::Errors {
+        lines,
+        analysed,
+        reused,
+    } = session.update_sole(alloc)
+    else {
+        return Err(Fail::from("no diagnostics"));
+    };
+    assert_eq!(rt; (analysed, reused), (0, 0));
+    assert_eq!(rt;
+        lines.as_slice().first().map(|line| line.code),
+        Some(DiagCode::RootMissing)
+    );
+
+    for (text, len) in [
+        ("export fn f() u32 { return 0; }", 60),
+        ("export fn abcd() u32 { return 128; }\n", 64),
+    ] {
+        session.set_file(
+            FilePath::of(alloc, "m.zig")?,
+            Vec::from_slice(alloc, text.as_bytes())?,
+        )?;
+        let Update::Module {
+            bytes,
+            analysed,
+            reused,
+        } = session.update_sole(alloc)
+        else {
+            return Err(Fail::from("no module"));
+        };
+        assert_eq!(rt; (bytes.len(), analysed, reused), (len, 3, 0), "{text}");
+    }
+    Ok(())
+}
+
+#[test]
+fn builds_exactly_one_form(rt: HostRuntime) -> Result<(), Fail> {
+    let alloc = rt.alloc();
+    let mut session = session(alloc)?;
+    for text in [
+        "",
+        "export fn f() u32 { return 07; }",
+        "export fn f() u32 { return 4294967296; }",
+        "export fn f() u32 { return ; }",
+        "export fn f() u32 {return 7; }",
+        "export  fn f() u32 { return 7; }",
+        "export fn f() u32 { return 7; }\n\n",
+        "export fn f() u32 { return 7; } ",
+        "export fn f1() u32 { return 7; }",
+        "export fn fn() u32 { return 7; }",
+        "export fn true() u32 { return 7; }",
+        "export fn () u32 { return 7; }",
+    ] {
+        session.set_file(
+            FilePath::of(alloc, "m.zig")?,
+            Vec::from_slice(alloc, text.as_bytes())?,
+        )?;
+        let Update::Errors { lines, .. } = session.update_sole(alloc) else {
+            return Err(Fail::from("no diagnostics"));
+        };
+        assert_eq!(rt;
+            lines.as_slice().first().map(|line| line.code),
+            Some(DiagCode::NotBuilt),
+            "{text}"
+        );
+    }
+    Ok(())
+}
+
+#[test]
+fn keeps_its_limits(rt: HostRuntime) -> Result<(), Fail> {
+    let alloc = rt.alloc();
+    let mut session = session(alloc)?;
+    let long = vec![in alloc; b' '; 1_048_577]?;
+    let refused = session.set_file(FilePath::of(alloc, "a")?, long);
+    assert_eq!(rt;
+        refused,
+        Err(SetFault::Limit {
+            which: Which::FileBytes,
+            number: 1_048_576
+        })
+    );
+    for number in 0..64u32 {
+        let path = format!(in alloc; "f{number}")?;
+        session.set_file(
+            FilePath::of(alloc, path.as_str())?,
+            vec![in alloc; b' '; 1_048_576]?,
+        )?;
+    }
+    let refused = session.set_file(FilePath::of(alloc, "a")?, vec![in alloc; b' ']?);
+    assert_eq!(rt;
+        refused,
+        Err(SetFault::Limit {
+            which: Which::TotalBytes,
+            number: 67_108_864
+        })
+    );
+    session.set_file(FilePath::of(alloc, "f0")?, Vec::new(alloc))?;
+    session.set_file(FilePath::of(alloc, "a")?, vec![in alloc; b' ']?)?;
+    Ok(())
+}

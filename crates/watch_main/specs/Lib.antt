@@ -1,0 +1,4 @@
+pub mod Session
+pub mod RunOnce
+pub mod Steps
+pub mod AnswerText

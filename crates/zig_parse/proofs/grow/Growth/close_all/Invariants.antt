@@ -1,0 +1,7 @@
+use Rattle.std.proofs.Common.{◌≡◌, ◌-◌}
+use Rattle.zig_parse.specs.Growth.{all_shut}
+use Rattle.zig_parse.specs.Grows.{grown}
+use Rattle.zig_parse.proofs.grow.Growth.close_all.Given as goal
+
+abbrev pub invariant-loop : goal.invariant-loop
+invariant-loop l = all_shut (10000000 - l.counter) l.tokens (grown l.self) ≡ all_shut 10000000 l.tokens (grown l.fn.self)

@@ -1,0 +1,10 @@
+pub mod Stack
+pub mod Choices
+pub mod Threads
+pub mod Moves
+pub mod Passes
+pub mod Surveys
+pub mod Nodes
+pub mod Growth
+pub mod Grows
+pub mod Tokens

@@ -1,0 +1,22 @@
+//! The parser of Zig's text: from the tokens of a file to its tree, or to the token that no sentence
+//! of the grammar goes on with.
+//!
+//! The model: `zig_tree`'s rules as data. A first pass follows every way to read the tokens, a few at
+//! a time, and finds the refused token or which way holds; a second pass takes that way and builds
+//! its tree. `parse_of` is both passes as one function on lists.
+//! Public calls: `parse`. The crate stands on `zig_tree` and `zw_base`.
+#![tactic(auto)]
+
+mod built;
+mod choice;
+mod fault;
+mod grow;
+mod parser;
+mod settle;
+mod stack;
+mod state;
+mod survey;
+mod thread;
+
+pub use fault::SyntaxFault;
+pub use parser::parse;

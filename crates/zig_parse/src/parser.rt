@@ -1,0 +1,29 @@
+// From tokens to the tree or the refused token.
+ghost use Rattle.std.specs.Prelude.{◌≡◌, ◌+◌, IfOk, length};
+ghost use Rattle.zig_parse.specs.Growth.{parse_of};
+ghost use Rattle.zig_parse.specs.Tokens.{EndsOnce};
+ghost use Rattle.zig_parse.specs.Surveys.{Gives};
+
+use std::alloc::Global;
+
+use zig_tree::{Token, Tree};
+
+use crate::fault::SyntaxFault;
+use crate::grow::grow;
+use crate::state::survey;
+
+/// The tree of a file's tokens (Zig Language Reference 0.14, "Grammar"), or why there is none: the
+/// answer is that of the function `parse_of` on lists, unless memory runs out. The list ends with the
+/// token of the file's end and has it nowhere else.
+#[tactic(auto, unfolding(crate::specs::Growth::parse_of))]
+pub fn parse(alloc: Global, tokens: &[Token]) -> Result<Tree, SyntaxFault>
+    requires { EndsOnce tokens.now }
+    ensures nodes { Gives (λ t. t.nodes) result (parse_of tokens.now) }
+    ensures root { IfOk result (λ t. t.root + 1 ≡ length t.nodes) }
+{
+    let Ok(count) = u32::try_from(tokens.len()) else {
+        return Err(SyntaxFault::OutOfMemory);
+    };
+    let chosen = survey(alloc, tokens, count)?;
+    grow(alloc, tokens, count, chosen.as_slice())
+}

@@ -1,0 +1,335 @@
+// The first pass: every way to read the tokens, until one way is left or none.
+//
+// A brace that begins a block, the values of a container or its members is read by threads of their
+// own, one for each of the three rules that is wanted there, and the threads that want it wait. So
+// however many ways there are to read what lies around a brace, what lies in it is read once.
+ghost use Rattle.std.specs.Prelude.{◌≡◌, ◌++◌, IfOk, OnOk, None, [], map};
+ghost use Rattle.zig_tree.specs.Grammar.{rule_rows};
+ghost use Rattle.zig_parse.specs.Passes.{all_marked, begun, begun_for, finished, marked};
+ghost use Rattle.zig_parse.specs.Moves.{waits_for};
+ghost use Rattle.zig_parse.specs.Passes as spec;
+
+use std::alloc::{AllocError, Global};
+
+use zig_tree::{Rule, TokenKind, same_kind, same_rule};
+
+use crate::choice::{Choice, Look, rule_choice};
+use crate::stack::Stack;
+use crate::thread::{LIMIT, Thread, same_future};
+
+/// What became of the tokens so far.
+#[derive(Clone, Copy, Debug)]
+pub enum Verdict {
+    Fine,
+    Unexpected,
+    TooDeep,
+}
+
+/// What another thread read: the rule, and how many nodes lie one in the other.
+#[derive(Clone, Copy, Debug)]
+pub struct Finished {
+    pub goal: Rule,
+    pub height: u32,
+}
+
+/// The thread that reads what a rule derives.
+#[tactic(auto, unfolding(crate::specs::Passes::begun))]
+pub fn begin(alloc: Global, goal: Rule, depth: u32, look: Look) -> Result<Thread, AllocError>
+    ensures { IfOk result (λ t. t ≡ begun look goal depth) }
+{
+    let mut thread = Thread::begin(alloc, goal, depth);
+    thread.open(goal)?;
+    if let Choice::One(parts) = rule_choice(goal, look) {
+        thread.put(parts)?;
+    }
+    Ok(thread)
+}
+
+/// Whether a thread waits for a rule.
+#[tactic(auto, unfolding(crate::specs::Passes::wants))]
+fn wants(thread: &Thread, goal: Rule) -> bool
+    ensures { result ≡ spec.wants thread.now goal }
+{
+    match thread.waits_for() {
+        Some(rule) => same_rule(rule, goal),
+        None => false,
+    }
+}
+
+/// The threads that wait for a brace, each with the node around the brace made solid where it is one.
+#[tactic(auto, unfolding(crate::specs::Passes::those_waiting))]
+pub fn those_waiting(alloc: Global, mut ready: Stack<Thread>) -> Result<Vec<Thread>, AllocError>
+    ensures { IfOk result (λ v. v.items ≡ spec.those_waiting ready) }
+{
+    let mut waiting = Vec::new(alloc);
+    while let Some(mut thread) = ready.pop() {
+        if let Some(rule) = thread.waits_for() {
+            thread.meet(rule);
+            waiting.push(thread)?;
+        }
+    }
+    Ok(waiting)
+}
+
+/// Whether one of the threads waits for a brace.
+#[tactic(auto, using(crate::proofs::Slices::slice_steps))]
+pub fn any_waits(ready: &[Thread]) -> bool
+    ensures { result ≡ spec.any_waits ready.now }
+{
+    for thread in ready {
+        if thread.waits_for().is_some() {
+            return true;
+        }
+    }
+    false
+}
+
+/// How deep the node around the brace lies, where no token lies too deep.
+fn depth_for(thread: &Thread) -> u32
+    ensures { result ≡ spec.depth_for thread.now }
+{
+    if thread.deep { LIMIT } else { thread.depth }
+}
+
+/// The lesser of two depths, where there are two.
+fn least_with(depth: u32, least: Option<u32>) -> u32
+    ensures { result ≡ spec.least_with depth least }
+{
+    match least {
+        Some(other) => depth.min(other),
+        None => depth,
+    }
+}
+
+/// How deep the node around the brace lies in the shallowest way to read a rule there.
+#[tactic(auto, using(crate::proofs::Slices::slice_steps))]
+fn least_depth(waiting: &[Thread], goal: Rule) -> Option<u32>
+    ensures { result ≡ spec.least_from None goal waiting.now }
+{
+    let mut least = None;
+    for thread in waiting {
+        if wants(thread, goal) {
+            least = Some(least_with(depth_for(thread), least));
+        }
+    }
+    least
+}
+
+/// Puts a thread for a rule that begins with the brace in front, where one waits for it.
+fn begin_wanted(
+    alloc: Global,
+    waiting: &[Thread],
+    goal: Rule,
+    look: Look,
+    live: &mut Stack<Thread>,
+) -> Result<(), AllocError>
+    ensures { OnOk result (live.new ≡ begun_for look waiting.now goal ++ live.old) }
+{
+    match least_depth(waiting, goal) {
+        Some(depth) => live.push(begin(alloc, goal, depth, look)?),
+        None => Ok(()),
+    }
+}
+
+/// The threads that read what begins with the brace.
+#[tactic(auto, unfolding(crate::specs::Passes::inside))]
+pub fn inside(alloc: Global, waiting: &[Thread], look: Look) -> Result<Stack<Thread>, AllocError>
+    ensures { IfOk result (λ live. live ≡ spec.inside look waiting.now) }
+{
+    let mut live = Stack::new(alloc);
+    begin_wanted(alloc, waiting, Rule::ContainerBody, look, &mut live)?;
+    begin_wanted(alloc, waiting, Rule::Initializer, look, &mut live)?;
+    begin_wanted(alloc, waiting, Rule::Block, look, &mut live)?;
+    Ok(live)
+}
+
+/// Whether a thread goes on as one of these does.
+#[tactic(auto, using(crate::proofs::Slices::slice_steps))]
+fn is_among(kept: &[Thread], thread: &Thread) -> bool
+    ensures { result ≡ spec.is_among kept.now thread.now }
+{
+    for other in kept {
+        if same_future(other, thread) {
+            return true;
+        }
+    }
+    false
+}
+
+/// A thread joins those that are kept, unless one of them goes on as it does.
+fn keep(kept: &mut Vec<Thread>, thread: Thread) -> Result<(), AllocError>
+    ensures { OnOk result (kept.new.items ≡ spec.kept_with kept.old.items thread) }
+{
+    if !is_among(kept.as_slice(), &thread) {
+        kept.push(thread)?;
+    }
+    Ok(())
+}
+
+/// The threads after the token. Of those that go on in the same way the first one stays.
+#[tactic(auto, unfolding(crate::specs::Passes::after_token))]
+pub fn after_token(alloc: Global, mut ready: Stack<Thread>) -> Result<Vec<Thread>, AllocError>
+    ensures { IfOk result (λ v. v.items ≡ spec.after_token [] ready) }
+{
+    let mut kept = Vec::new(alloc);
+    while let Some(mut thread) = ready.pop() {
+        thread.read();
+        keep(&mut kept, thread)?;
+    }
+    Ok(kept)
+}
+
+/// Marks the tokens at which a thread took the second alternative.
+#[tactic(auto, unfolding(crate::specs::Passes::marked))]
+fn commit(mut choices: Stack<u32>, chosen: &mut Vec<bool>)
+    ensures { chosen.new.items ≡ marked choices chosen.old.items }
+{
+    while let Some(at) = choices.pop() {
+        if (at as usize) < chosen.len() {
+            chosen[at as usize] = true;
+        }
+    }
+}
+
+/// What the threads inside a brace read, once it is closed.
+#[tactic(auto, unfolding(crate::specs::Passes::all_marked))]
+pub fn results(
+    alloc: Global,
+    mut live: Stack<Thread>,
+    chosen: &mut Vec<bool>,
+) -> Result<Vec<Finished>, AllocError>
+    ensures found { IfOk result (λ v. v.items ≡ map finished live) }
+    ensures marks { OnOk result (chosen.new.items ≡ all_marked live chosen.old.items) }
+{
+    let mut found = Vec::new(alloc);
+    while let Some(mut thread) = live.pop() {
+        let height = thread.finish();
+        let Thread {
+            goal,
+            items: _,
+            frames: _,
+            depth: _,
+            deep: _,
+            choices,
+        } = thread;
+        commit(choices, chosen);
+        found.push(Finished { goal, height })?;
+    }
+    Ok(found)
+}
+
+/// How many nodes lie one in the other in what was read for a rule.
+#[tactic(auto, using(crate::proofs::Slices::slice_steps))]
+fn result_for(found: &[Finished], goal: Rule) -> Option<u32>
+    ensures { result ≡ spec.result_for found.now goal }
+{
+    for finished in found {
+        if same_rule(finished.goal, goal) {
+            return Some(finished.height);
+        }
+    }
+    None
+}
+
+/// A thread that waited goes on, where what it waits for was read.
+fn resume(found: &[Finished], kept: &mut Vec<Thread>, mut thread: Thread) -> Result<(), AllocError>
+    ensures { OnOk result (kept.new.items ≡ spec.resumed_by found.now kept.old.items thread (waits_for thread)) }
+{
+    match thread.waits_for() {
+        Some(rule) => match result_for(found, rule) {
+            Some(height) => {
+                thread.receive(height);
+                keep(kept, thread)
+            }
+            None => Ok(()),
+        },
+        None => Ok(()),
+    }
+}
+
+/// The threads that waited for what was read, and go on.
+#[tactic(auto, unfolding(crate::specs::Passes::resumed))]
+pub fn resumed(
+    alloc: Global,
+    mut waiting: Stack<Thread>,
+    found: &[Finished],
+) -> Result<Vec<Thread>, AllocError>
+    ensures { IfOk result (λ v. v.items ≡ spec.resumed found.now [] waiting) }
+{
+    let mut live = Vec::new(alloc);
+    while let Some(thread) = waiting.pop() {
+        resume(found, &mut live, thread)?;
+    }
+    Ok(live)
+}
+
+/// Whether each thread has read a token that lies too deep.
+#[tactic(auto, using(crate::proofs::Slices::slice_steps))]
+fn all_deep(live: &[Thread]) -> bool
+    ensures { result ≡ spec.all_deep live.now }
+{
+    for thread in live {
+        if !thread.deep {
+            return false;
+        }
+    }
+    true
+}
+
+/// What became of the tokens so far.
+pub fn judge(live: &[Thread]) -> Verdict
+    ensures { result ≡ spec.verdict_of live.now }
+{
+    if live.is_empty() {
+        Verdict::Unexpected
+    } else if all_deep(live) {
+        Verdict::TooDeep
+    } else {
+        Verdict::Fine
+    }
+}
+
+/// Whether the innermost brace is closed.
+#[tactic(auto, unfolding(crate::specs::Passes::is_closed))]
+pub fn is_closed(live: &[Thread], look: Look) -> bool
+    ensures { result ≡ spec.is_closed look live.now }
+{
+    same_kind(look.kind, TokenKind::RightBrace)
+        && match live {
+            [thread, ..] => thread.items.len() == 0,
+            [] => false,
+        }
+}
+
+/// The threads, where one alone is left without its choices, which hold from now on.
+pub fn settle_choices(
+    alloc: Global,
+    mut live: Stack<Thread>,
+    chosen: &mut Vec<bool>,
+) -> Result<Stack<Thread>, AllocError>
+    ensures threads { IfOk result (λ v. v ≡ spec.alone live) }
+    ensures marks { OnOk result (chosen.new.items ≡ spec.marked_alone live chosen.old.items) }
+{
+    if live.len() == 1 {
+        if let Some(thread) = live.pop() {
+            let Thread {
+                goal,
+                items,
+                frames,
+                depth,
+                deep,
+                choices,
+            } = thread;
+            commit(choices, chosen);
+            live.push(Thread {
+                goal,
+                items,
+                frames,
+                depth,
+                deep,
+                choices: Stack::new(alloc),
+            })?;
+        }
+    }
+    Ok(live)
+}
