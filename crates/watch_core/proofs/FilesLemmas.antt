@@ -13,6 +13,7 @@ use Rattle.std.proofs.lemmas.List.Sums.{sum_by-cons}
 use Rattle.std.proofs.lemmas.Map.Text.{is_eq-slice_cmp}
 use Rattle.std.specs.Str.{bytes_eq}
 use lib.Pointwise.{pointwise}
+use denote.Ref.{Bor}
 use Rattle.zw_base.specs.Outside.{file_at}
 use Rattle.watch_core.specs.SessionState.{with_file, total_bytes}
 
@@ -65,4 +66,10 @@ pub total_same : (files : List (List ℕ × List ℕ)) (path bytes old : List �
 total_same files path bytes old s e =
     let all = rw (← e) at (total_bytes-with_file files path bytes s) in
     let within = old_within files path old e in
+    omega arith
+
+-- the text of a file is no longer than all files together
+pub text_within : (files : List (List ℕ × List ℕ)) (path : List ℕ) (text : Option (Bor (List ℕ))) (x : Bor (List ℕ)) (limit : ℕ) → option_map (λ t. t.now) text ≡ file_at files path → total_bytes files ≤ limit → text ≡ Some x → length x.now ≤ limit
+text_within files path text x limit e h is =
+    let within = old_within files path x.now (ap (option_map (λ (t : Bor (List ℕ)). t.now)) (sym is) ∙ e ∙ sym (at_path_is files path)) in
     omega arith

@@ -25,8 +25,8 @@ is_reserved letters = list_any (λ word. pointwise ◌==◌ word.now letters) RE
 
 -- 1 to 64 letters that are none of the reserved names
 abbrev pub is_name : List ℕ → Bool
-is_name letters =
-    nat_lt 0 (length letters) && nat_le (length letters) 64 && not (is_reserved letters)
+is_name name =
+    list_all is_letter name && nat_lt 0 (length name) && nat_le (length name) 64 && not (is_reserved name)
 
 -- the number that digits say
 abbrev pub value_from : ℕ → List ℕ → ℕ

@@ -3,7 +3,7 @@ ghost use Rattle.std.specs.Prelude.{◌≡◌, ◌≤◌, ◌<◌, ◌==◌};
 ghost use Rattle.std.specs.List.{list_any, list_all};
 ghost use Rattle.std.specs.Option.{option_map};
 ghost use lib.Pointwise.{pointwise};
-ghost use Rattle.watch_core.specs.Form.{is_digit, is_name, is_reserved, is_plain, int_of, have_kinds, bytes_of, bytes_at, built_from, built_of};
+ghost use Rattle.watch_core.specs.Form.{is_letter, is_digit, is_name, is_reserved, is_plain, int_of, have_kinds, bytes_of, bytes_at, built_from, built_of};
 
 use zig_tree::{Token, TokenKind, same_kind};
 
@@ -135,15 +135,17 @@ fn built_from<'a>(name: &'a [u8], type_name: &[u8], digits: &[u8]) -> Option<Con
 fn have_kinds(tokens: &[Token], kinds: &[TokenKind]) -> bool
     ensures { result ≡ have_kinds tokens.now kinds.now }
 {
-    if tokens.len() != kinds.len() {
-        return false;
-    }
-    for (token, kind) in tokens.iter().zip(kinds) {
+    let mut rest = tokens;
+    for kind in kinds {
+        let Some((token, others)) = rest.split_first() else {
+            return false;
+        };
         if !same_kind(token.kind, *kind) {
             return false;
         }
+        rest = others;
     }
-    true
+    rest.is_empty()
 }
 
 /// The bytes of the token with this number.
@@ -169,10 +171,16 @@ fn bytes_of(text: &[u8], token: Token) -> &[u8]
 }
 
 /// Whether a name may be given to a function.
-fn is_name(letters: &[u8]) -> bool
-    ensures { result ≡ is_name letters.now }
+fn is_name(name: &[u8]) -> bool
+    ensures { result ≡ is_name name.now }
 {
-    !letters.is_empty() && letters.len() <= 64 && !is_reserved(letters)
+    are_letters(name) && !name.is_empty() && name.len() <= 64 && !is_reserved(name)
+}
+
+fn are_letters(bytes: &[u8]) -> bool
+    ensures { result ≡ list_all is_letter bytes.now }
+{
+    bytes.iter().all(|b| b.is_ascii_lowercase())
 }
 
 #[tactic(auto, unfolding(crate::specs::Form::is_reserved))]

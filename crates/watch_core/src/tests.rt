@@ -28,7 +28,7 @@ fn answers_for_the_files_as_they_stand(rt: HostRuntime) -> Result<(), Fail> {
 
     for (text, len) in [
         ("export fn f() u32 { return 0; }", 60),
-        ("export fn abcd() u32 { return 128; }\n", 64),
+        ("export\tfn abcd ( ) u32 { // x\n return 128 ; }\n", 64),
     ] {
         session.set_file(
             FilePath::of(alloc, "m.zig")?,
@@ -51,32 +51,73 @@ fn answers_for_the_files_as_they_stand(rt: HostRuntime) -> Result<(), Fail> {
 fn builds_exactly_one_form(rt: HostRuntime) -> Result<(), Fail> {
     let alloc = rt.alloc();
     let mut session = session(alloc)?;
-    for text in [
-        "",
-        "export fn f() u32 { return 07; }",
-        "export fn f() u32 { return 4294967296; }",
-        "export fn f() u32 { return ; }",
-        "export fn f() u32 {return 7; }",
-        "export  fn f() u32 { return 7; }",
-        "export fn f() u32 { return 7; }\n\n",
-        "export fn f() u32 { return 7; } ",
-        "export fn f1() u32 { return 7; }",
-        "export fn fn() u32 { return 7; }",
-        "export fn true() u32 { return 7; }",
-        "export fn () u32 { return 7; }",
+    for (text, code, line, col) in [
+        ("", DiagCode::NotBuilt, 1, 1),
+        (
+            "export fn f() u32 { return 4294967296; }",
+            DiagCode::NotBuilt,
+            1,
+            1,
+        ),
+        (
+            "export fn f() u32 { return 0x7; }",
+            DiagCode::NotBuilt,
+            1,
+            1,
+        ),
+        (
+            "export fn f() u32 { return 1_0; }",
+            DiagCode::NotBuilt,
+            1,
+            1,
+        ),
+        ("export fn f1() u32 { return 7; }", DiagCode::NotBuilt, 1, 1),
+        (
+            "export fn @\"f\"() u32 { return 7; }",
+            DiagCode::NotBuilt,
+            1,
+            1,
+        ),
+        (
+            "export fn true() u32 { return 7; }",
+            DiagCode::NotBuilt,
+            1,
+            1,
+        ),
+        ("export fn f() u16 { return 7; }", DiagCode::NotBuilt, 1, 1),
+        (
+            "export fn f() u32 { return 07; }",
+            DiagCode::BadNumber,
+            1,
+            28,
+        ),
+        (
+            "export fn fn() u32 { return 7; }",
+            DiagCode::UnexpectedToken,
+            1,
+            11,
+        ),
+        (
+            "\n export fn f() u32 { return 7 }",
+            DiagCode::UnexpectedToken,
+            2,
+            31,
+        ),
+        ("// x\nconst x = \"", DiagCode::OpenString, 2, 11),
     ] {
         session.set_file(
             FilePath::of(alloc, "m.zig")?,
             Vec::from_slice(alloc, text.as_bytes())?,
         )?;
         let Update::Errors { lines, .. } = session.update_sole(alloc) else {
-            return Err(Fail::from("no diagnostics"));
+            return Err(Fail::from(text));
         };
-        assert_eq!(rt;
-            lines.as_slice().first().map(|line| line.code),
-            Some(DiagCode::NotBuilt),
-            "{text}"
-        );
+        assert_eq!(rt; lines.len(), 1, "{text}");
+        let found = lines
+            .as_slice()
+            .first()
+            .map(|found| (found.code, found.line, found.col));
+        assert_eq!(rt; found, Some((code, line, col)), "{text}");
     }
     Ok(())
 }
