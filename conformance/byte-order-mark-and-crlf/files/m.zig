@@ -1,0 +1,4 @@
+﻿// a file of another editor
+export fn f() u32 {
+	return 7;
+}

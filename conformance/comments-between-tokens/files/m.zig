@@ -1,0 +1,4 @@
+/// doc
+export//
+fn f(// none
+)u32{return 7;}//!

@@ -1,0 +1,1 @@
+export fn f() u32 { return 7 }
