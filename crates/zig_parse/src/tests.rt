@@ -2,6 +2,7 @@
 use super::{SyntaxFault, parse};
 use Wanted::{TooDeep, Tree, Unexpected};
 use std::alloc::{AllocError, Global};
+use std::process::Abort;
 use std::test::Fail;
 use zig_tree::{Token, TokenKind};
 use zw_base::Span;
@@ -14,481 +15,237 @@ enum Wanted {
     TooDeep(u32),
 }
 
-const CASES: [(&str, Wanted); 228] = [
-    ("pub const a : u8 = 1 ;", Tree),
-    ("var a = 1 , ;", Unexpected(4)),
-    ("const a : T ;", Unexpected(4)),
-    ("const = 1 ;", Unexpected(1)),
-    ("export fn f ( ) void { }", Tree),
-    ("export const a = 1 ;", Unexpected(1)),
-    (
-        "pub export fn f ( a : u8 , b : u8 ) u8 { return a ; }",
-        Tree,
-    ),
-    ("extern fn f ( a : u8 ) void ;", Tree),
-    ("extern \"m\" fn f ( ) void ;", Tree),
-    ("extern \"m\" fn f ( ) void { }", Unexpected(7)),
-    ("comptime { }", Tree),
-    ("comptime a ;", Unexpected(1)),
-    ("test { }", Tree),
-    ("test \"t\" { }", Tree),
-    ("test a { }", Unexpected(1)),
-    ("pub test { }", Unexpected(1)),
-    ("fn f ( a , b : u8 ) void { }", Unexpected(4)),
-    ("fn f ( comptime a : type , ) void { }", Tree),
-    ("fn f ( ) ! void { }", Tree),
-    ("fn f ( ) { }", Unexpected(4)),
-    ("fn f ( ) E ! void { }", Tree),
-    (
-        "const S = struct { a : u8 , b : u8 = 1 , pub fn f ( ) void { } } ;",
-        Tree,
-    ),
-    ("const S = struct { a : u8 ; } ;", Unexpected(8)),
-    ("const S = enum { a , b = 2 , c } ;", Tree),
-    ("const S = enum ( u8 ) { a } ;", Tree),
-    ("const S = union ( enum ) { a : u8 , b } ;", Tree),
-    ("const S = union { a } ;", Unexpected(4)),
-    ("const S = struct { a } ;", Tree),
-    ("const e = error { A , B , } ;", Tree),
-    ("const e = error . A ;", Tree),
-    ("const e = error ( A ) ;", Unexpected(4)),
-    ("const e = error { 1 } ;", Unexpected(5)),
-    (
-        "const a = b . c .* .? [ 1 ] [ 1 .. ] [ 1 .. 2 ] ( 3 , 4 , ) ;",
-        Tree,
-    ),
-    ("const a = b [ ] ;", Unexpected(5)),
-    ("const a = b [ .. 2 ] ;", Unexpected(5)),
-    ("const a = b . 1 ;", Unexpected(5)),
-    ("const a = @b ( c , d ) ;", Tree),
-    ("const a = @b ;", Unexpected(4)),
-    ("const a : ? * const [ 3 ] u8 = b ;", Tree),
-    ("const a : [ ] const u8 = b ;", Tree),
-    ("const a : [ _ ] u8 = b ;", Tree),
-    ("const a : [ const ] u8 = b ;", Unexpected(4)),
-    ("const a : * * u8 = b ;", Tree),
-    ("const a : ** u8 = b ;", Tree),
-    ("const a : E ! ? u8 = b ;", Tree),
-    ("const a = . { } ;", Tree),
-    ("const a = . { 1 , 2 , } ;", Tree),
-    ("const a = . { . b = 1 , . c = . d } ;", Tree),
-    ("const a = . { . b , . c } ;", Tree),
-    ("const a = T { . b = 1 , } ;", Tree),
-    ("const a = [ _ ] u8 { 1 , 2 } ;", Tree),
-    ("const a = . { , } ;", Unexpected(5)),
-    ("const a = ! b and - c or ~ d ;", Tree),
-    ("const a = b or c and d == e & f << g + h * i ;", Tree),
-    ("const a = b < c < d ;", Unexpected(6)),
-    ("const a = try b orelse c catch d ;", Tree),
-    ("const a = b catch | e | c ;", Tree),
-    ("const a = b catch | * * e | c ;", Unexpected(7)),
-    ("const a = if ( b ) c else d ;", Tree),
-    ("const a = if ( b ) | * c | d else | e | f ;", Tree),
-    ("const a = if b ;", Unexpected(4)),
-    ("const a = while ( b ) : ( c = d ) e else f ;", Tree),
-    ("const a = while ( b ) : c ;", Unexpected(8)),
-    ("const a = for ( b , c ) | d , * e | f else g ;", Tree),
-    ("const a = for ( b ) c ;", Unexpected(7)),
-    ("const a = for ( ) | b | c ;", Unexpected(5)),
-    ("const a = b : { break : b 1 ; } ;", Tree),
-    ("const a = b : while ( c ) { continue : b ; } ;", Tree),
-    (
-        "const a = switch ( b ) { 1 => c , 2 , 3 ... 4 => | d | e , else => f } ;",
-        Tree,
-    ),
-    ("const a = switch ( b ) { 1 : c } ;", Unexpected(9)),
-    ("const a = switch ( b ) { } ;", Tree),
-    ("const a = switch ( b ) { else , 1 => c } ;", Unexpected(9)),
-    ("const a = switch ( b ) { 1 , => c } ;", Tree),
-    ("const a = comptime b ;", Tree),
-    ("const a = return ;", Tree),
-    ("const a = unreachable ;", Tree),
-    ("const a = \"s\" ++ \"t\" ** 2 ;", Tree),
-    ("const a = 'c' ;", Tree),
-    ("const a = b c ;", Unexpected(4)),
-    ("const a = async b ;", Unexpected(3)),
-    ("fn f ( ) void { const a = 1 ; var b : u8 = 2 ; }", Tree),
-    ("fn f ( ) void { comptime var a = 1 ; }", Tree),
-    ("fn f ( ) void { comptime { } }", Tree),
-    (
-        "fn f ( ) void { defer a ( ) ; errdefer | e | b ( ) ; errdefer { } }",
-        Tree,
-    ),
-    (
-        "fn f ( ) void { _ = a ; a = b ; a += b ; a <<|= b ; }",
-        Tree,
-    ),
-    ("fn f ( ) void { a = b = c ; }", Unexpected(9)),
-    (
-        "fn f ( ) void { if ( a ) b ; if ( a ) b else c ; if ( a ) { } else { } }",
-        Tree,
-    ),
-    ("fn f ( ) void { if ( a ) { } else }", Unexpected(13)),
-    ("fn f ( ) void { if ( a ) if ( b ) c else d ; }", Tree),
-    (
-        "fn f ( ) void { if ( a ) b else if ( c ) d else e ; }",
-        Tree,
-    ),
-    (
-        "fn f ( ) void { while ( a ) | b | : ( c ) { } else | e | { } }",
-        Tree,
-    ),
-    ("fn f ( ) void { for ( a , 0 .. 3 , ) | b , c | d ; }", Tree),
-    ("fn f ( ) void { l : while ( a ) { break : l ; } }", Tree),
-    ("fn f ( ) void { l : switch ( a ) { } }", Unexpected(8)),
-    ("fn f ( ) void { { } { } switch ( a ) { } { } }", Tree),
-    ("fn f ( ) void { { } ; }", Tree),
-    ("fn f ( ) void { return }", Unexpected(7)),
-    ("fn f ( ) void { break : a b ; continue ; return ; }", Tree),
-    ("fn f ( ) void { switch ( a ) { } . b ; }", Tree),
-    ("fn f ( ) void { switch ( a ) { } ! b ; }", Tree),
-    ("fn f ( ) void { switch ( a ) { } { . b = c } ; }", Tree),
-    ("fn f ( ) void { switch ( a ) { } { , } }", Unexpected(13)),
-    ("fn f ( ) void { if ( a ) { } & b else c ; }", Tree),
-    ("fn f ( ) void { { } & b else c ; }", Unexpected(10)),
-    ("fn f ( ) void { { } ** a : { } ; }", Tree),
-    ("fn f ( ) void ;", Unexpected(5)),
-    ("}", Unexpected(0)),
-    ("a", Unexpected(0)),
-    ("a : u8 ,", Unexpected(0)),
-    ("const a = ( b ;", Unexpected(5)),
-    ("fn f ( ) void { if ( a ) { } - 1 ; }", Tree),
-    ("fn f ( ) void { if ( a ) { } - 1 else 1 ; }", Tree),
-    (
-        "fn f ( ) void { if ( x ) { } else if ( a ) { } - 1 else 1 ; }",
-        Tree,
-    ),
-    ("fn f ( ) void { { } * - 1 ; }", Tree),
-    ("fn f ( ) void { { } -% 1 { } ; }", Tree),
-    ("fn f ( ) void { l : { } + 1 ; }", Tree),
-    ("fn f ( ) void { { } ; if ( a ) b else { } ; }", Tree),
-    ("fn f ( ) void { if ( a ) { } else { } }", Tree),
-    ("fn f ( ) void { if ( a ) b else c }", Unexpected(13)),
-    ("fn f ( ) void { switch ( x ) { } ( ) ; }", Tree),
-    ("fn f ( ) void { switch ( x ) { } { a } }", Unexpected(15)),
-    ("fn f ( ) void { a : b ; }", Unexpected(8)),
-    ("const x = a : 1 ;", Unexpected(5)),
-    ("const S = struct { a : u8 b : u8 } ;", Unexpected(8)),
-    ("const S = struct { const a = 1 ; b , } ;", Tree),
-    ("const x = union ( enum ) { a } ;", Tree),
-    ("const x = union ( enum { a } ) { a } ;", Tree),
-    ("const x = . { . a = 1 , 1 } ;", Unexpected(10)),
-    ("const x = . { 1 , . a = 1 } ;", Unexpected(9)),
-    ("const f = fn ( ) void ;", Unexpected(3)),
-    (
-        "fn f ( _ : u8 , comptime T : type , x : anytype , ) ! T { }",
-        Tree,
-    ),
-    ("fn f ( ) void { for ( a , 1 .. ) | x , i , | { } }", Tree),
-    (
-        "fn f ( ) void { while ( a ) : ( i += 1 ) { } else { } }",
-        Tree,
-    ),
-    ("const x = a catch | e | b ;", Tree),
-    ("const x = a orelse return ;", Tree),
-    ("const x = a == b == c ;", Unexpected(6)),
-    ("const x = _ ;", Unexpected(3)),
-    ("_ = a ;", Unexpected(0)),
-    ("const a = 1 + 1 * 1 - 1 / 1 % 1 ;", Tree),
-    (
-        "const aa = a . b . c [ 1 .. 1 ] [ 1 .. <<= .* .? . d ( e , f ) ( g ) ;",
-        Unexpected(16),
-    ),
-    (
-        "export fn g ( ) u32 { var i : u32 = 1 ; while ( i < 1 ) : ( i += 1 ) = + if ( i == 1 1 ) break ; } else return 1 ; return i ; }",
-        Unexpected(26),
-    ),
-    ("const a + 1 = 1 * 1 - 1 / 1 % 1 ;", Unexpected(2)),
-    ("fn z } ) { unreachable ; (", Unexpected(2)),
-    (
-        "const bb = struct { fn r ( ) u32 { return switch ( a ) { 1 ... 1 => | x | x , inline_ => 1 , else => unreachable , } ; } test ;",
-        Unexpected(38),
-    ),
-    (
-        "fn h ( o : ? u32 ) u32 { if ( o ) | v | q v else { return 1 ; } } }",
-        Unexpected(18),
-    ),
-    (
-        "fn k ( e : anyerror ! u32 >>= ) u32 { return e catch | err | switch ( err ) { error . A => 1 , error . B , error . C => 1 , else => 1 } ; }",
-        Unexpected(8),
-    ),
-    (
-        "fn k ( e : anyerror ! u32 ) u32 { return e catch | err == switch => err ) { error . A => 1 , error . B , error . C ( 1 , else => 1 } ; }",
-        Unexpected(16),
-    ),
-    (
-        "const v = if ( a ) b else while ( c ) asm else for ( e ) | f | g else h ;",
-        Unexpected(13),
-    ),
-    ("fn l ( s :", Unexpected(5)),
-    ("const aa = a . b .", Unexpected(7)),
-    (
-        "fn q ( ) void { if ( a ) { } - 1 else 1 ; switch ( x ) { { } ( a ) ; { } * b ; l : while ( true ) continue : l ; ; }",
-        Unexpected(24),
-    ),
-    ("const x = \"s\" ;", Tree),
-    (
-        "const U = union ( enum ) { n : % u32 , none } ;",
-        Unexpected(10),
-    ),
-    (
-        "fn k ( e : anyerror ! u32 ) u32 { return e catch err | switch ( err ) { error . A => 1 , error . orelse , error . C => 1 , else => 1 } align }",
-        Unexpected(29),
-    ),
-    (
-        "fn k ( e : anyerror ! u32 ) / u32 { return e catch | err | switch ( err ) { *|= . A => 1 , error . B , error . C => 1 , else => 1 } ; }",
-        Unexpected(9),
-    ),
-    ("fn q ( ) void {", Unexpected(6)),
-    (
-        "const aa = a . b . c [ 1 .. extern ] [ 1 .. ] .* .? . d ( e , f ) ( g ) ;",
-        Unexpected(11),
-    ),
-    ("const a = 1 + * 1 - 1 / 1 % 1 ;", Tree),
-    ("const x = . a ;", Tree),
-    (
-        "fn h ( ; : ? u32 ) u32 { if ( o ) | v | return v else { return 1 o } }",
-        Unexpected(3),
-    ),
-    (
-        "y pub fn f ( x : u32 , comptime T : type , _ : anytype ) ! ? * const [ 1 ] T { return x ; }",
-        Unexpected(0),
-    ),
-    ("const x = a . b ... c ;", Unexpected(6)),
-    (
-        "const w = a and b ! c and ( d == e or f < g ) and ~ ; & i | j ^ k << 1 >> > 1 <<| 1 h",
-        Unexpected(20),
-    ),
-    ("fn z ( noreturn { unreachable ; }", Unexpected(4)),
-    (
-        "fn k ( e : anyerror ! u32 ) u32 { var e catch | err | switch ( err ) { error . A => 1 , . B , error . C => 1 , else => 1 } &= }",
-        Unexpected(13),
-    ),
-    (
-        "> \"s\" const r = blk : { break : blk 1 ; } ; _ = r ; }",
-        Unexpected(0),
-    ),
-    (
-        "pub fn f ( x : u32 , comptime T : type , _ : anytype ) ! ? * const [ 1 ] T { return x ;",
-        Unexpected(29),
-    ),
-    (
-        "fn f ( ) void { { { { { { { { { { { { { { { { { { { { { { { { { { { { { { { { { { { { { { { { { { { { { { { { { { { { { { { { { { { { { } } } } } } } } } } } } } } } } } } } } } } } } } } } } } } } } } } } } } } } } } } } } } } } } } } } } } } } } } } } } }",
-        Tree,
-    ),
-    (
-        "const t = . { . a = 1 , . b = & . { , 1 , 1 } , . c = \"s\" ++ \"s\" ** 1 } ;",
-        Unexpected(16),
-    ),
-    ("x", Unexpected(0)),
-    (
-        "const y = { error { A , B } || error { C } ;",
-        Unexpected(16),
-    ),
-    (
-        "fn q ( ) void { if ( a ) { } - 1 else 1 ; switch ( x ) { } ( a ) ; { } * b b ; l : while ( true ) continue : l ; }",
-        Unexpected(31),
-    ),
-    (
-        "fn q ( ) void { if ( a ) { } - 1 else 1 ; switch ( x ) { } ( a ) ; { } * b ; l : while ( true ) continue : l ; }",
-        Tree,
-    ),
-    (
-        "const U = union ( %= , ) { n : u32 enum none } ;",
-        Unexpected(5),
-    ),
-    (
-        "comptime { _ = ; ( \"s\" ) @b @b ( 1 volatile ; }",
-        Unexpected(4),
-    ),
-    ("const U = union ( , ) { n : u32 , } ;", Unexpected(5)),
-    ("comptime { _ = @b ( \"s\" ; @b ( 1 ) ; }", Unexpected(7)),
-    (
-        "const aa for a . . b . c [ 1 .. ] [ 1 .. ] .* .? . d ( e , f ) ( g ) ;",
-        Unexpected(2),
-    ),
-    (
-        "export fn g ( ) u32 { var i : u32 = 1 ; while ( i return 1 ) : ( i += 1 ) { if ( i == 1 ) break ; } else < 1 ; return i ; }",
-        Unexpected(17),
-    ),
-    (
-        "test \"s\" \"s\" { const r = blk : { break : blk 1 ; } ; _ = r ; }",
-        Unexpected(2),
-    ),
-    ("const U and union ( enum ) { n : , none } ;", Unexpected(2)),
-    (
-        "const x = - - - - - - - - - - - - - - - - - - - - - - - - - - - - - - - - - - - - - - - - - - - - - - - - - - - - - - - - - - - - - - - - - - - - - - - - - - - - - - - - - - - - - - - - - - - - - - - 1 ;",
-        Tree,
-    ),
-    (
-        "if test \"s\" { const r = blk nosuspend : { break : blk 1 ; } ; _ = r ; }",
-        Unexpected(0),
-    ),
-    (
-        "const x = ( ( ( ( ( ( ( ( ( ( ( ( ( ( ( ( ( ( ( ( ( ( ( ( ( ( ( ( ( ( ( ( ( ( ( ( ( ( ( ( ( ( ( ( ( ( ( ( ( ( ( ( ( ( ( ( ( ( ( ( ( ( ( 1 ) ) ) ) ) ) ) ) ) ) ) ) ) ) ) ) ) ) ) ) ) ) ) ) ) ) ) ) ) ) ) ) ) ) ) ) ) ) ) ) ) ) ) ) ) ) ) ) ) ) ) ) ) ) ) ) ) ) ) ) ) ) ) ;",
-        Tree,
-    ),
-    (
-        "const S = struct { a : u8 = 1 , b : [ ] const u8 , const c = 1 ; pub fn m ( self : * S ) void .? { self . a +%= 1 ; } } ;",
-        Tree,
-    ),
-    (
-        "fn f ( ) void { { { { { { { { { { { { { { { { { { { { { { { { { { { { { { { { { { { { { { { { { { { { { { { { { { { { { { { { { { { { { { { { } } } } } } } } } } } } } } } } } } } } } } } } } } } } } } } } } } } } } } } } } } } } } } } } } } } } } } } } } } } } } } } }",
-        Tree,
-    ),
-    ("const a = 1 + 1 * 1 - : / 1 % 1 ;", Unexpected(9)),
-    (
-        "const t = . = . a = 1 , . b { & . { 1 , , 1 , 1 } , . c = \"s\" ++ \"s\" ** 1 } ;",
-        Unexpected(4),
-    ),
-    ("comptime { _ = @b ( \"s\" ; ) @b ( 1 ) ; }", Unexpected(7)),
-    (
-        "pub fn f ( x : u32 , comptime T : type , _ : anytype ) ! ? * const [ 1 ] T { return x ; }",
-        Tree,
-    ),
-    ("const a a = 1 + inline * 1 - / 1 % 1 ;", Unexpected(2)),
-    (
-        "fn l ( s : [ ] u8 ) void { for ( s , 1 .. ) | * p , i | { p .* = @b ( i ) ; } defer { errdefer | e | { _ = e ; } } }",
-        Tree,
-    ),
-    (
-        "async E = enum 1 u8 ) { x = 1 , y , z = 1 } ;",
-        Unexpected(0),
-    ),
-    (
-        "const v = if ( ; ) b else while ( c ) d f for ( e ) | else \"s\" | g else h a",
-        Unexpected(5),
-    ),
-    (
-        "callconv bb = struct { ( r ( ) u32 { return switch fn a ) { 1 ... 1 => | x | x , inline_ => , else => unreachable , } ; } } ;",
-        Unexpected(0),
-    ),
-    (
-        "fn q ( ) ( { if ( a ) { } - 1 else 1 ; switch ( x + ) { } void a ) ; { } * b ; l *% while ( true ) continue : l ; }",
-        Unexpected(21),
-    ),
-    ("const v = if (", Unexpected(5)),
-    ("extern and fn p ( x : : u32 void ;", Unexpected(1)),
-    (
-        "const bb = struct { fn ( ) u32 u32 { return switch ( a ) { 1 ... 1 => | x | x , inline_ => 1 , else => unreachable , } ; } }",
-        Unexpected(6),
-    ),
-    (
-        "const y = error noalias { A , B } || error { C } ;",
-        Unexpected(4),
-    ),
-    (
-        "const t = . { . a = 1 , . b = & . { 1 , 1 , 1 } , . c = = \"s\" ++ \"s\" ** 1 } ;",
-        Unexpected(26),
-    ),
-    ("const x = q ;", Tree),
-    (
-        "const x : ? ? ? ? ? ? ? ? ? ? ? ? ? ? ? ? ? ? ? ? ? ? ? ? ? ? ? ? ? ? ? ? ? ? ? ? ? ? ? ? ? ? ? ? ? ? ? ? ? ? ? ? ? ? ? ? ? ? ? ? ? ? ? ? ? ? ? ? ? ? ? ? ? ? ? ? ? ? ? ? ? ? ? ? ? ? ? ? ? ? ? ? ? ? ? ? ? ? ? u8 = 1 ;",
-        Tree,
-    ),
-    (
-        "fn q ( ) void { if ( a ) { } - 1 else 1 ; switch ( ( x ) { } a ) ; { } nosuspend b ; l : while ( true ) continue : l ; }",
-        Unexpected(24),
-    ),
-    (
-        "addrspace U = union ( enum ) { n : u32 , none } ;",
-        Unexpected(0),
-    ),
-    (
-        "pub const S = struct { a : u8 = 1 , b : [ ] const u8 , const c = 1 ; pub fn m ( self : * S ) void { self . a +%= 1 ; } } ;",
-        Tree,
-    ),
-    (
-        "const bb = struct { fn r ( ) u32 { return , ( a ) { 1 ... 1 ** => | x | x inline_ => 1 , else => unreachable , } ; } } ;",
-        Unexpected(12),
-    ),
-    (
-        "const x = ( ( ( ( ( ( ( ( ( ( ( ( ( ( ( ( ( ( ( ( ( ( ( ( ( ( ( ( ( ( ( ( ( ( ( ( ( ( ( ( ( ( ( ( ( ( ( ( ( ( ( ( ( ( ( ( ( ( ( ( ( ( ( ( ( 1 ) ) ) ) ) ) ) ) ) ) ) ) ) ) ) ) ) ) ) ) ) ) ) ) ) ) ) ) ) ) ) ) ) ) ) ) ) ) ) ) ) ) ) ) ) ) ) ) ) ) ) ) ) ) ) ) ) ) ) ) ) ) ) ) ) ;",
-        Tree,
-    ),
-    ("const y = A { error , B } || error { C } ;", Unexpected(6)),
-    (
-        "const w = a and b or ! c and ( d == e or f < g ) and ~ h & i | j %= k << 1 >> 1 <<| 1 ;",
-        Unexpected(26),
-    ),
-    (
-        "test \"s\" { const r = blk : { break : blk 1 ; } ; _ = r ; }",
-        Tree,
-    ),
-    (
-        "test \"s\" { comptime r = blk : { break : blk 1 ; } ; _ = r ; }",
-        Tree,
-    ),
-    (
-        "export fn g ( ) u32 { var i : u32 = 1 ; while ( i < 1 ) : ( i += 1 ) { if ( i == 1 ) break ; } else return 1 ; return i ; }",
-        Tree,
-    ),
-    (
-        "const aa = a . b . c [ 1 .. 1 ] [ 1 .. ] .* .? . d d ( e , f ) ( g ) ;",
-        Unexpected(21),
-    ),
-    (
-        "pub fn f ( x u32 , comptime T : type , _ : anytype ) ! ? * const [ 1 ] T { return x ; }",
-        Unexpected(5),
-    ),
-    (
-        "test \"s\" { const r = blk : break : blk 1 ; } ; _ = r ; }",
-        Unexpected(8),
-    ),
-    ("const U = & ( enum ) { : u32 , none } ;", Unexpected(6)),
-    (
-        "fn l ( s : [ ] u8 ) void { for ( s , 1 ? ) | * p , i | { p .* = @b ( i ) ; } defer { errdefer | e | { _ = e ; } } }",
-        Unexpected(16),
-    ),
-    (
-        "const U U = union enum ) { n : u32 , none } ;",
-        Unexpected(2),
-    ),
-    ("extern \"s\" fn p ( x : u32 ) void", Unexpected(10)),
-    (".* \"s\" fn p \"s\" ( ( x : u32 ) void ;", Unexpected(0)),
-    ("const x = 1 ;", Tree),
-    (
-        "const S = struct { a : u8 = 1 , b : [ ] const u8 , const c = 1 ; pub fn m ( self : * S ) void { self -% . a +%= 1 ; } } ;",
-        Tree,
-    ),
-    ("fn z ( ) noreturn { unreachable ; }", Tree),
-    (
-        "const aa = a . b . c [ 1 .. 1 1 ] [ 1 .. ] .* .? . d ( e , f ) ( g ) ;",
-        Unexpected(12),
-    ),
-    ("", Tree),
-    (
-        "fn z ( ) noreturn { unreachable usingnamespace ; }",
-        Unexpected(7),
-    ),
-    ("const E = enum ( u8 ) { x = 1 , y , z = 1 } ;", Tree),
-];
+/// Declarations and containers.
+fn declarations() -> &'static [(&'static str, Wanted)] {
+    &[
+        ("pub const a : u8 = 1 ;", Tree),
+        ("var a = 1 , ;", Unexpected(4)),
+        ("const a : T ;", Unexpected(4)),
+        ("const = 1 ;", Unexpected(1)),
+        ("export fn f ( ) void { }", Tree),
+        ("export const a = 1 ;", Unexpected(1)),
+        (
+            "pub export fn f ( a : u8 , b : u8 ) u8 { return a ; }",
+            Tree,
+        ),
+        ("extern fn f ( a : u8 ) void ;", Tree),
+        ("extern \"m\" fn f ( ) void ;", Tree),
+        ("extern \"m\" fn f ( ) void { }", Unexpected(7)),
+        ("comptime { }", Tree),
+        ("comptime a ;", Unexpected(1)),
+        ("test { }", Tree),
+        ("test \"t\" { }", Tree),
+        ("test a { }", Unexpected(1)),
+        ("pub test { }", Unexpected(1)),
+        ("fn f ( a , b : u8 ) void { }", Unexpected(4)),
+        ("fn f ( comptime a : type , ) void { }", Tree),
+        ("fn f ( ) ! void { }", Tree),
+        ("fn f ( ) { }", Unexpected(4)),
+        ("fn f ( ) E ! void { }", Tree),
+        (
+            "const S = struct { a : u8 , b : u8 = 1 , pub fn f ( ) void { } } ;",
+            Tree,
+        ),
+        ("const S = struct { a : u8 ; } ;", Unexpected(8)),
+        ("const S = enum { a , b = 2 , c } ;", Tree),
+        ("const S = enum ( u8 ) { a } ;", Tree),
+        ("const S = union ( enum ) { a : u8 , b } ;", Tree),
+        ("const S = union { a } ;", Unexpected(4)),
+        ("const S = struct { a } ;", Tree),
+        ("const e = error { A , B , } ;", Tree),
+    ]
+}
+
+/// Operands and operators.
+fn operands() -> &'static [(&'static str, Wanted)] {
+    &[
+        ("const e = error . A ;", Tree),
+        ("const e = error ( A ) ;", Unexpected(4)),
+        ("const e = error { 1 } ;", Unexpected(5)),
+        (
+            "const a = b . c .* .? [ 1 ] [ 1 .. ] [ 1 .. 2 ] ( 3 , 4 , ) ;",
+            Tree,
+        ),
+        ("const a = b [ ] ;", Unexpected(5)),
+        ("const a = b [ .. 2 ] ;", Unexpected(5)),
+        ("const a = b . 1 ;", Unexpected(5)),
+        ("const a = @b ( c , d ) ;", Tree),
+        ("const a = @b ;", Unexpected(4)),
+        ("const a : ? * const [ 3 ] u8 = b ;", Tree),
+        ("const a : [ ] const u8 = b ;", Tree),
+        ("const a : [ _ ] u8 = b ;", Tree),
+        ("const a : [ const ] u8 = b ;", Unexpected(4)),
+        ("const a : * * u8 = b ;", Tree),
+        ("const a : ** u8 = b ;", Tree),
+        ("const a : E ! ? u8 = b ;", Tree),
+        ("const a = . { } ;", Tree),
+        ("const a = . { 1 , 2 , } ;", Tree),
+        ("const a = . { . b = 1 , . c = . d } ;", Tree),
+        ("const a = . { . b , . c } ;", Tree),
+        ("const a = T { . b = 1 , } ;", Tree),
+        ("const a = [ _ ] u8 { 1 , 2 } ;", Tree),
+        ("const a = . { , } ;", Unexpected(5)),
+        ("const a = ! b and - c or ~ d ;", Tree),
+        ("const a = b or c and d == e & f << g + h * i ;", Tree),
+        ("const a = b < c < d ;", Unexpected(6)),
+        ("const a = try b orelse c catch d ;", Tree),
+        ("const a = b catch | e | c ;", Tree),
+        ("const a = b catch | * * e | c ;", Unexpected(7)),
+        ("const a = if ( b ) c else d ;", Tree),
+        ("const a = if ( b ) | * c | d else | e | f ;", Tree),
+        ("const a = if b ;", Unexpected(4)),
+        ("const a = while ( b ) : ( c = d ) e else f ;", Tree),
+    ]
+}
+
+/// Operators, and words that begin an operand.
+fn operators() -> &'static [(&'static str, Wanted)] {
+    &[
+        ("const a = while ( b ) : c ;", Unexpected(8)),
+        ("const a = for ( b , c ) | d , * e | f else g ;", Tree),
+        ("const a = for ( b ) c ;", Unexpected(7)),
+        ("const a = for ( ) | b | c ;", Unexpected(5)),
+        ("const a = b : { break : b 1 ; } ;", Tree),
+        ("const a = b : while ( c ) { continue : b ; } ;", Tree),
+        (
+            "const a = switch ( b ) { 1 => c , 2 , 3 ... 4 => | d | e , else => f } ;",
+            Tree,
+        ),
+        ("const a = switch ( b ) { 1 : c } ;", Unexpected(9)),
+        ("const a = switch ( b ) { } ;", Tree),
+        ("const a = switch ( b ) { else , 1 => c } ;", Unexpected(9)),
+        ("const a = switch ( b ) { 1 , => c } ;", Tree),
+        ("const a = comptime b ;", Tree),
+        ("const a = return ;", Tree),
+        ("const a = unreachable ;", Tree),
+        ("const a = \"s\" ++ \"t\" ** 2 ;", Tree),
+        ("const a = 'c' ;", Tree),
+        ("const a = b c ;", Unexpected(4)),
+        ("const a = async b ;", Unexpected(3)),
+        ("fn f ( ) void { const a = 1 ; var b : u8 = 2 ; }", Tree),
+        ("fn f ( ) void { comptime var a = 1 ; }", Tree),
+        ("fn f ( ) void { comptime { } }", Tree),
+        (
+            "fn f ( ) void { defer a ( ) ; errdefer | e | b ( ) ; errdefer { } }",
+            Tree,
+        ),
+    ]
+}
+
+/// Statements.
+fn statements() -> &'static [(&'static str, Wanted)] {
+    &[
+        (
+            "fn f ( ) void { _ = a ; a = b ; a += b ; a <<|= b ; }",
+            Tree,
+        ),
+        ("fn f ( ) void { a = b = c ; }", Unexpected(9)),
+        (
+            "fn f ( ) void { if ( a ) b ; if ( a ) b else c ; if ( a ) { } else { } }",
+            Tree,
+        ),
+        ("fn f ( ) void { if ( a ) { } else }", Unexpected(13)),
+        ("fn f ( ) void { if ( a ) if ( b ) c else d ; }", Tree),
+        (
+            "fn f ( ) void { if ( a ) b else if ( c ) d else e ; }",
+            Tree,
+        ),
+        (
+            "fn f ( ) void { while ( a ) | b | : ( c ) { } else | e | { } }",
+            Tree,
+        ),
+        ("fn f ( ) void { for ( a , 0 .. 3 , ) | b , c | d ; }", Tree),
+        ("fn f ( ) void { l : while ( a ) { break : l ; } }", Tree),
+        ("fn f ( ) void { l : switch ( a ) { } }", Unexpected(8)),
+        ("fn f ( ) void { { } { } switch ( a ) { } { } }", Tree),
+        ("fn f ( ) void { { } ; }", Tree),
+        ("fn f ( ) void { return }", Unexpected(7)),
+        ("fn f ( ) void { break : a b ; continue ; return ; }", Tree),
+        ("fn f ( ) void { switch ( a ) { } . b ; }", Tree),
+        ("fn f ( ) void { switch ( a ) { } ! b ; }", Tree),
+        ("fn f ( ) void { switch ( a ) { } { . b = c } ; }", Tree),
+        ("fn f ( ) void { switch ( a ) { } { , } }", Unexpected(13)),
+        ("fn f ( ) void { if ( a ) { } & b else c ; }", Tree),
+        ("fn f ( ) void { { } & b else c ; }", Unexpected(10)),
+        ("fn f ( ) void { { } ** a : { } ; }", Tree),
+        ("fn f ( ) void ;", Unexpected(5)),
+        ("}", Unexpected(0)),
+        ("a", Unexpected(0)),
+        ("a : u8 ,", Unexpected(0)),
+        ("const a = ( b ;", Unexpected(5)),
+    ]
+}
+
+/// Places at which two readings are open.
+fn readings() -> &'static [(&'static str, Wanted)] {
+    &[
+        ("fn f ( ) void { if ( a ) { } - 1 ; }", Tree),
+        ("fn f ( ) void { if ( a ) { } - 1 else 1 ; }", Tree),
+        (
+            "fn f ( ) void { if ( x ) { } else if ( a ) { } - 1 else 1 ; }",
+            Tree,
+        ),
+        ("fn f ( ) void { { } * - 1 ; }", Tree),
+        ("fn f ( ) void { { } -% 1 { } ; }", Tree),
+        ("fn f ( ) void { l : { } + 1 ; }", Tree),
+        ("fn f ( ) void { { } ; if ( a ) b else { } ; }", Tree),
+        ("fn f ( ) void { if ( a ) { } else { } }", Tree),
+        ("fn f ( ) void { if ( a ) b else c }", Unexpected(13)),
+        ("fn f ( ) void { switch ( x ) { } ( ) ; }", Tree),
+        ("fn f ( ) void { switch ( x ) { } { a } }", Unexpected(15)),
+        ("fn f ( ) void { a : b ; }", Unexpected(8)),
+        ("const x = a : 1 ;", Unexpected(5)),
+        ("const S = struct { a : u8 b : u8 } ;", Unexpected(8)),
+        ("const S = struct { const a = 1 ; b , } ;", Tree),
+        ("const x = union ( enum ) { a } ;", Tree),
+        ("const x = union ( enum { a } ) { a } ;", Tree),
+        ("const x = . { . a = 1 , 1 } ;", Unexpected(10)),
+        ("const x = . { 1 , . a = 1 } ;", Unexpected(9)),
+        ("const f = fn ( ) void ;", Unexpected(3)),
+        (
+            "fn f ( _ : u8 , comptime T : type , x : anytype , ) ! T { }",
+            Tree,
+        ),
+        ("fn f ( ) void { for ( a , 1 .. ) | x , i , | { } }", Tree),
+        (
+            "fn f ( ) void { while ( a ) : ( i += 1 ) { } else { } }",
+            Tree,
+        ),
+        ("const x = a catch | e | b ;", Tree),
+        ("const x = a orelse return ;", Tree),
+        ("const x = a == b == c ;", Unexpected(6)),
+        ("const x = _ ;", Unexpected(3)),
+        ("_ = a ;", Unexpected(0)),
+    ]
+}
 
 /// A beginning, what follows it, how often, and the answer.
-const NESTED: [(&str, &str, u32, Wanted); 12] = [
-    ("const x =", "(", 197, TooDeep(199)),
-    ("const x =", "(", 196, Unexpected(199)),
-    ("const x =", "-", 3000, Unexpected(3003)),
-    ("fn f ( ) void {", "{", 66, TooDeep(71)),
-    ("const x =", "if ( a )", 300, TooDeep(785)),
-    (
-        "fn f ( ) void {",
-        "switch ( x ) { } ( a )",
-        300,
-        Unexpected(15),
-    ),
-    ("const x = a", ". b", 3000, Unexpected(6004)),
-    ("fn f ( ) void {", "{ { } -", 60, TooDeep(159)),
-    ("fn f ( ) void {", "if ( a ) { } - {", 60, TooDeep(318)),
-    ("fn f ( ) void {", "switch ( x ) { } {", 60, Unexpected(426)),
-    (
-        "fn f ( ) void {",
-        "switch ( x ) { } { a : {",
-        60,
-        TooDeep(328),
-    ),
-    ("const x =", ". {", 120, TooDeep(200)),
-];
+fn nested() -> &'static [(&'static str, &'static str, u32, Wanted)] {
+    &[
+        ("const x =", "(", 197, TooDeep(199)),
+        ("const x =", "(", 196, Unexpected(199)),
+        ("const x =", "-", 3000, Unexpected(3003)),
+        ("fn f ( ) void {", "{", 66, TooDeep(71)),
+        ("const x =", "if ( a )", 300, TooDeep(785)),
+        (
+            "fn f ( ) void {",
+            "switch ( x ) { } ( a )",
+            300,
+            Unexpected(15),
+        ),
+        ("const x = a", ". b", 3000, Unexpected(6004)),
+        ("fn f ( ) void {", "{ { } -", 60, TooDeep(159)),
+        ("fn f ( ) void {", "if ( a ) { } - {", 60, TooDeep(318)),
+        ("fn f ( ) void {", "switch ( x ) { } {", 60, Unexpected(426)),
+        (
+            "fn f ( ) void {",
+            "switch ( x ) { } { a : {",
+            60,
+            TooDeep(328),
+        ),
+        ("const x =", ". {", 120, TooDeep(200)),
+    ]
+}
 
 /// Words and symbols with their kinds.
 const WORDS: [(&str, TokenKind); 112] = [
@@ -654,17 +411,29 @@ fn answer(alloc: Global, tokens: &[Token]) -> Result<Wanted, AllocError> {
     }
 }
 
+/// Checks the answers to texts.
+fn check(rt: &impl Abort, alloc: Global, cases: &[(&str, Wanted)]) -> Result<(), Fail> {
+    for (text, wanted) in cases {
+        let mut tokens = Vec::new(alloc);
+        add(&mut tokens, text)?;
+        end(&mut tokens)?;
+        assert_eq!(rt; answer(alloc, tokens.as_slice())?, *wanted, "{text}");
+    }
+    Ok(())
+}
+
 #[test]
 fn tables(rt: HostRuntime) -> Result<(), Fail> {
-    for (text, wanted) in &CASES {
-        let mut tokens = Vec::new(rt.alloc());
-        if !text.is_empty() {
-            add(&mut tokens, text)?;
-        }
-        end(&mut tokens)?;
-        assert_eq!(rt; answer(rt.alloc(), tokens.as_slice())?, *wanted, "{text}");
-    }
-    for (text, again, times, wanted) in &NESTED {
+    check(&rt, rt.alloc(), declarations())?;
+    check(&rt, rt.alloc(), operands())?;
+    check(&rt, rt.alloc(), operators())?;
+    check(&rt, rt.alloc(), statements())?;
+    check(&rt, rt.alloc(), readings())
+}
+
+#[test]
+fn nested_deep(rt: HostRuntime) -> Result<(), Fail> {
+    for (text, again, times, wanted) in nested() {
         let mut tokens = Vec::new(rt.alloc());
         add(&mut tokens, text)?;
         for _ in 0..*times {
