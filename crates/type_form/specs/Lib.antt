@@ -1,1 +1,6 @@
+pub mod Denote
+pub mod Known
+pub mod Layers
+pub mod Means
 pub mod Tree
+pub mod Words
