@@ -1,5 +1,6 @@
 pub mod Depth
 pub mod KeyKinds
+pub mod LayerLemmas
 pub mod MeansLemmas
 pub mod Options
 pub mod WordLemmas

@@ -177,7 +177,7 @@ IsNodeOf k key (OfDecl x) = IsDeclOf k key x
 IsNodeOf k key (OfInstance x) = IsInstanceOf k key x
 IsNodeOf k key (OfList x) = IsListOf k key x
 
-end_tells : (ns : List ℕ) (n : Node) → end_of ns ≡ Some n → (length ns ≤ 60) × (OfList ns ≡ n)
+pub end_tells : (ns : List ℕ) (n : Node) → end_of ns ≡ Some n → (length ns ≤ 60) × (OfList ns ≡ n)
 end_tells ns n e = by_test (nat_le (length ns) 60) refl
   where
     by_test : (b : Bool) → nat_le (length ns) 60 ≡ b → (length ns ≤ 60) × (OfList ns ≡ n)
@@ -187,7 +187,7 @@ end_tells ns n e = by_test (nat_le (length ns) 60) refl
 end_made : (ns : List ℕ) → length ns ≤ 60 → end_of ns ≡ Some (OfList ns)
 end_made ns h = grind arith
 
-more_tells : (ns ms : List ℕ) (n : Node) → more_of ns ms ≡ Some n → (length ns ≡ 60) × (0 < length ms) × (OfList (ns ++ ms) ≡ n)
+pub more_tells : (ns ms : List ℕ) (n : Node) → more_of ns ms ≡ Some n → (length ns ≡ 60) × (0 < length ms) × (OfList (ns ++ ms) ≡ n)
 more_tells ns [] n e = cc
 more_tells ns (m ∷ ms) n e = by_test (length ns == 60) refl
   where
