@@ -1,3 +1,4 @@
+pub mod Counts
 pub mod Denote
 pub mod Known
 pub mod Layers

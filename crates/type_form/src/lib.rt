@@ -5,8 +5,10 @@ mod tree;
 mod unit;
 mod index;
 mod key;
+mod pool;
 
 pub use index::Index;
 pub use key::{Few, Key, KeyBuf};
+pub use pool::{InternFault, Interner, Keys};
 pub use tree::{Arg, DeclPath, SimpleTy, SimpleValue, Ty, Value};
 pub use unit::{Instance, Unit};
