@@ -1,6 +1,8 @@
 -- The key that words may have is the key that has them.
 use Rattle.std.proofs.Common.{◌≡◌, ℕ, ◌+◌, ◌*◌, ◌/◌, ◌%◌, ◌^◌, ◌<◌, ◌≤◌, ◌==◌, Bool, true, false, if◌then◌else◌, List, [], ◌∷◌, length, take, Option, Some, None, ℤ, pos, negsuc, refl, sym, ap, ap₂, ◌∙◌, subst, arith, eqb-true}
 use Rattle.std.proofs.lemmas.List.{take_all}
+use Rattle.std.specs.Str.{bytes_eq}
+use Rattle.std.proofs.lemmas.Slice.Eq.{bytes_eq-Decides}
 use Rattle.type_form.specs.declared.index.Index.{Index}
 use Rattle.type_form.specs.declared.key.Key.{Key}
 use Rattle.type_form.specs.declared.key.Key.TheVariants as key
@@ -8,7 +10,7 @@ use Rattle.type_form.specs.declared.tree.SimpleTy.{SimpleTy}
 use Rattle.type_form.specs.declared.tree.SimpleTy.TheVariants as simple
 use Rattle.type_form.specs.declared.tree.SimpleValue.{SimpleValue}
 use Rattle.type_form.specs.declared.tree.SimpleValue.TheVariants as known
-use Rattle.type_form.specs.Words.{words_of, word_of_bool, word_of_simple, simple_of_word, word_of_known, known_of_word, words_of_int, int_of_words, FitsInt, Fits, guess, same_words, key_of, index_of}
+use Rattle.type_form.specs.Words.{words_of, word_of_bool, word_of_simple, simple_of_word, word_of_known, known_of_word, words_of_int, int_of_words, FitsInt, Fits, guess, key_of, index_of}
 
 bool-word : (b : Bool) → (word_of_bool b == 1) ≡ b
 bool-word true = refl
@@ -76,34 +78,36 @@ guess-words (key.Instance d l) h = refl
 guess-words (key.End ns) h = ap key.End (take_all 60 ns h)
 guess-words (key.More ns i) h = ap (λ ms. key.More ms i) (take_all 60 ns h)
 
-same_words-self : (ws : List ℕ) → same_words ws ws ≡ true
-same_words-self [] = refl
-same_words-self (w ∷ ws) = grind (arith, same_words-self ws)
-
-same_words-true : (as' bs : List ℕ) → same_words as' bs ≡ true → as' ≡ bs
-same_words-true [] [] e = refl
-same_words-true [] (b ∷ bs) e = cc
-same_words-true (a ∷ as') [] e = cc
-same_words-true (a ∷ as') (b ∷ bs) e = by_test (a == b) refl (same_words-true as' bs)
-  where
-    by_test : (t : Bool) → (a == b) ≡ t → (same_words as' bs ≡ true → as' ≡ bs) → (a ∷ as') ≡ (b ∷ bs)
-    by_test true t g = let e' = eqb-true a b t in let f = g (sym (ap (λ u. if u then same_words as' bs else false) t) ∙ e) in cc
-    by_test false t g = let f = sym (ap (λ u. if u then same_words as' bs else false) t) ∙ e in cc
+bytes_eq-self : (ws : List ℕ) → bytes_eq ws ws ≡ true
+bytes_eq-self ws = (bytes_eq-Decides ws ws).1 refl
 
 -- a key that fits its words is read back from them
 pub key_of-words_of : (k : Key) → Fits k → key_of (words_of k) ≡ Some k
 unfolding key_of
 key_of-words_of k h =
-    ap (λ g. if same_words (words_of g) (words_of k) then Some g else None) (guess-words k h) ∙ ap (λ b. if b then Some k else None) (same_words-self (words_of k))
+    ap (λ g. if bytes_eq (words_of g) (words_of k) then Some g else None) (guess-words k h) ∙ ap (λ b. if b then Some k else None) (bytes_eq-self (words_of k))
 
 -- and only a key that has these words is read from words
 pub words_of-key_of : (ws : List ℕ) (k : Key) → key_of ws ≡ Some k → words_of k ≡ ws
 unfolding key_of
-words_of-key_of ws k e = by_test (same_words (words_of (guess ws)) ws) refl
+words_of-key_of ws k e = by_test (bytes_eq (words_of (guess ws)) ws) refl
   where
-    by_test : (b : Bool) → same_words (words_of (guess ws)) ws ≡ b → words_of k ≡ ws
+    by_test : (b : Bool) → bytes_eq (words_of (guess ws)) ws ≡ b → words_of k ≡ ws
     by_test true t =
         let f = sym (ap (λ b. if b then Some (guess ws) else None) t) ∙ e in
         let g : guess ws ≡ k = cc in
-        sym (ap words_of g) ∙ same_words-true _ ws t
+        sym (ap words_of g) ∙ (bytes_eq-Decides (words_of (guess ws)) ws).0 t
     by_test false t = let f = sym (ap (λ b. if b then Some (guess ws) else None) t) ∙ e in cc
+
+-- where no key is read, no key that fits has the words
+pub key_of-none : (ws : List ℕ) (k : Key) → key_of ws ≡ None → Fits k → words_of k ≡ ws → ⊥
+key_of-none ws k e f w = let g : Some k ≡ None = sym (key_of-words_of k f) ∙ ap key_of w ∙ e in cc
+
+-- where the words that a key may have are these, it is the key that is read
+pub key_of-same : (ws : List ℕ) (k : Key) → k ≡ guess ws → bytes_eq (words_of k) ws ≡ true → key_of ws ≡ Some k
+unfolding key_of
+key_of-same ws k e t = let f : bytes_eq (words_of (guess ws)) ws ≡ true = subst (λ g. bytes_eq (words_of g) ws ≡ true) e t in ap (λ b. if b then Some (guess ws) else None) f ∙ ap Some (sym e)
+
+pub key_of-other : (ws : List ℕ) (k : Key) → k ≡ guess ws → bytes_eq (words_of k) ws ≡ false → key_of ws ≡ None
+unfolding key_of
+key_of-other ws k e t = let f : bytes_eq (words_of (guess ws)) ws ≡ false = subst (λ g. bytes_eq (words_of g) ws ≡ false) e t in ap (λ b. if b then Some (guess ws) else None) f

@@ -1,5 +1,6 @@
 -- Keys as words. Every key but a list has a fixed number of words; a list stands last.
 use Rattle.std.specs.Prelude.{◌≡◌, ℕ, ◌+◌, ◌*◌, ◌/◌, ◌%◌, ◌^◌, ◌<◌, ◌≤◌, ◌==◌, Bool, true, false, if◌then◌else◌, List, [], ◌∷◌, ◌++◌, length, take, drop, slice_index, nat_lt, Option, Some, None, ℤ, pos, negsuc}
+use Rattle.std.specs.Str.{bytes_eq}
 use Rattle.type_form.specs.declared.index.Index.{Index}
 use Rattle.type_form.specs.declared.key.Key.{Key}
 use Rattle.type_form.specs.declared.key.Key.TheVariants as key
@@ -181,13 +182,6 @@ guess_by t ws = if nat_lt t 13 then guess_type t ws else if nat_lt t 27 then gue
 abbrev pub guess : List ℕ → Key
 guess ws = guess_by (slice_index ws 0) (drop 1 ws)
 
--- whether two lists of words are equal
-abbrev pub same_words : List ℕ → List ℕ → Bool
-same_words [] [] = true
-same_words [] (b ∷ bs) = false
-same_words (a ∷ as') [] = false
-same_words (a ∷ as') (b ∷ bs) = if a == b then same_words as' bs else false
-
 -- the key with these words, where there is one
 unfoldable pub key_of : List ℕ → Option Key
-key_of ws = if same_words (words_of (guess ws)) ws then Some (guess ws) else None
+key_of ws = if bytes_eq (words_of (guess ws)) ws then Some (guess ws) else None

@@ -1,5 +1,5 @@
 // One layer of what an index stands for, with indices in place of its parts.
-ghost use Rattle.std.specs.Prelude.{◌≡◌, ◌<◌, [], ◌∷◌, ◌++◌, length, slice_index, ◌≤◌};
+ghost use Rattle.std.specs.Prelude.{◌≡◌, ◌+◌, ◌<◌, [], ◌∷◌, ◌++◌, length, slice_index, ◌≤◌};
 
 use std::marker::Model;
 
@@ -54,6 +54,25 @@ impl KeyBuf {
     {
         self.words[self.count] = word;
         self.count += 1;
+    }
+
+    /// Replaces the words. Takes no memory.
+    pub fn set(&mut self, words: &[u64])
+        requires { length words.now ≤ 64 }
+        ensures { self.new ≡ words.now }
+    {
+        self.words[..words.len()].copy_from_slice(words);
+        self.count = words.len();
+    }
+
+    /// Appends words. Takes no memory.
+    pub fn append(&mut self, words: &[u64])
+        requires { length self.old + length words.now ≤ 64 }
+        ensures { self.new ≡ self.old ++ words.now }
+    {
+        let start = self.count;
+        self.words[start..start + words.len()].copy_from_slice(words);
+        self.count = start + words.len();
     }
 
     pub fn as_slice(&self) -> &[u64]
