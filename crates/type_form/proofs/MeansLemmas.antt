@@ -389,3 +389,32 @@ HasKey-words k i key f e = record { is = ap (option_and_then key_of) e ∙ key_o
 pub HasKey-read : (k : Known) (i : Index) (ws : List ℕ) (key : Key) → words_at k i ≡ Some ws → key_of ws ≡ Some key → HasKey k i key
 unfolding key_at
 HasKey-read k i ws key e f = record { is = ap (option_and_then key_of) e ∙ f }
+
+pub IsTy-keyed : (k : Known) (i : Index) → IsTy k i → IsSome (key_at k i)
+IsTy-keyed k i o = let t = IsTy-has_key k i o in ap is_some t.1.is
+
+pub IsValue-keyed : (k : Known) (i : Index) → IsValue k i → IsSome (key_at k i)
+IsValue-keyed k i o = let t = IsValue-has_key k i o in ap is_some t.1.is
+
+pub IsDecl-keyed : (k : Known) (i : Index) → IsDecl k i → IsSome (key_at k i)
+IsDecl-keyed k i o = let t = IsDecl-has_key k i o in ap is_some t.1.is
+
+pub IsInstance-keyed : (k : Known) (i : Index) → IsInstance k i → IsSome (key_at k i)
+IsInstance-keyed k i o = let t = IsInstance-has_key k i o in ap is_some t.1.is
+
+pub IsList-keyed : (k : Known) (i : Index) → IsList k i → IsSome (key_at k i)
+IsList-keyed k i o = let t = IsList-has_key k i o in ap is_some t.1.is
+
+-- an index with a key has words
+pub keyed-words : (k : Known) (i : Index) → IsSome (key_at k i) → IsSome (words_at k i)
+unfolding key_at
+keyed-words k i h = some_of (words_at k i) h
+  where
+    some_of : (o : Option (List ℕ)) → IsSome (option_and_then key_of o) → IsSome o
+    some_of None h = h
+    some_of (Some ws) h = refl
+
+-- the key that words hold, where an index has a key
+pub keyed-read : (k : Known) (i : Index) (ws : List ℕ) → IsSome (key_at k i) → words_at k i ≡ Some ws → IsSome (key_of ws)
+unfolding key_at
+keyed-read k i ws h e = subst (λ o. IsSome (option_and_then key_of o)) e h
