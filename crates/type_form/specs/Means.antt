@@ -14,7 +14,7 @@ use Rattle.type_form.specs.declared.tree.DeclPath.TheVariants as decl
 use Rattle.type_form.specs.declared.tree.Arg.TheVariants as arg
 use Rattle.type_form.specs.declared.tree.SimpleTy.TheVariants as simple
 use Rattle.type_form.specs.Known.{Known, key_at, Keeps, IsInjective}
-use Rattle.type_form.specs.Denote.{denoted, ty_in, value_in, decl_in, instance_in, list_in, lists_in, tys_in, values_in, args_in}
+use Rattle.type_form.specs.Denote.{denoted, ty_in, value_in, decl_in, instance_in, list_in, lists_in, tys_in, values_in, args_in, arg_in, each}
 
 -- it is the index of a type
 unfoldable pub IsTy : Known → Index → Type 0
@@ -209,3 +209,19 @@ abbrev pub IsListOf : Known → Key → List ℕ → Type 0
 IsListOf k (key.End ns) x = (length ns ≤ 60) × (x ≡ ns)
 IsListOf k (key.More ns i) x = IsList k i × (length ns ≡ 60) × (0 < length (list_at k i)) × (x ≡ ns ++ list_at k i)
 IsListOf k _ x = ⊥
+
+-- each number is the index of a list, and these are they
+pub record ListLists (k : Known) (ns : List ℕ) (xs : List (List ℕ)) : Type 0 where
+  pub is : each (list_in (denoted k)) ns ≡ Some xs
+
+-- each number is the index of a type, and these are they
+pub record ListTys (k : Known) (ns : List ℕ) (xs : List (Ty)) : Type 0 where
+  pub is : each (ty_in (denoted k)) ns ≡ Some xs
+
+-- each number is the index of a value, and these are they
+pub record ListValues (k : Known) (ns : List ℕ) (xs : List (Value)) : Type 0 where
+  pub is : each (value_in (denoted k)) ns ≡ Some xs
+
+-- each number is the index of an argument, and these are they
+pub record ListArgs (k : Known) (ns : List ℕ) (xs : List (Arg)) : Type 0 where
+  pub is : each (arg_in (denoted k)) ns ≡ Some xs

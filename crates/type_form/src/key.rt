@@ -114,6 +114,21 @@ impl Few {
         }
     }
 
+    /// The bytes of a slice as numbers. Takes no memory.
+    pub fn of_bytes(bytes: &[u8]) -> Few
+        requires { length bytes.now ≤ 60 }
+        ensures { result ≡ bytes.now }
+    {
+        let mut few = [0u64; 60];
+        for (i, byte) in bytes.iter().enumerate() {
+            few[i] = u64::from(*byte);
+        }
+        Few {
+            numbers: few,
+            count: bytes.len(),
+        }
+    }
+
     pub fn as_slice(&self) -> &[u64]
         ensures value { result.now ≡ self.now }
         ensures room { length self.now ≤ 60 }
