@@ -4,4 +4,6 @@ pub mod LayerLemmas
 pub mod ListsLemmas
 pub mod MeansLemmas
 pub mod Options
+pub mod SpellLemmas
+pub mod TextLemmas
 pub mod WordLemmas

@@ -1,6 +1,7 @@
 //! Types and values as plain trees.
 #![tactic(auto)]
 
+mod text;
 mod tree;
 mod unit;
 mod index;
