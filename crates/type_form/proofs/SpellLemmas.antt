@@ -1,5 +1,5 @@
 -- The spelling of each kind of tree.
-use Rattle.std.proofs.Common.{◌≡◌, ℕ, ℤ, Bool, List, [], ◌∷◌, ◌++◌, map, codes, if◌then◌else◌, refl, sym, ap, ◌∙◌}
+use Rattle.std.proofs.Common.{◌≡◌, ℕ, ℤ, Bool, List, [], ◌∷◌, ◌++◌, map, codes, if◌then◌else◌, refl, sym, ap, ◌∙◌, append_assoc}
 use Rattle.type_form.specs.declared.tree.Ty.{Ty}
 use Rattle.type_form.specs.declared.tree.Value.{Value}
 use Rattle.type_form.specs.declared.tree.DeclPath.{DeclPath}
@@ -30,6 +30,9 @@ pub mark_text-SimpleType : (s : SimpleTy) → mark_text (ty.Simple s) ≡ codes 
 unfolding mark_text
 mark_text-SimpleType s = ap (λ x. (ty_spelled x).mark) (sym (ty.rolls-Simple s)) ∙ ap (λ s. s.mark) (fold-roll-Ty (List ℕ) (List ℕ) TyText ValueText arg_layer decl_layer ty_layer value_layer (layer.Ty::Simple s))
 
+pub place_is-SimpleType : (s : SimpleTy) → place_text (ty.Simple s) ≡ ty_text (ty.Simple s)
+place_is-SimpleType s = place_text-SimpleType s ∙ sym (ty_text-SimpleType s)
+
 pub ty_text-IntType : (s : Bool) (n : ℕ) → ty_text (ty.Int s n) ≡ (if s then codes "i" else codes "u") ++ number_text n
 unfolding ty_text decl_text arg_text
 ty_text-IntType s n = ap (λ x. (ty_spelled x).text) (sym (ty.rolls-Int s n)) ∙ ap (λ s. s.text) (fold-roll-Ty (List ℕ) (List ℕ) TyText ValueText arg_layer decl_layer ty_layer value_layer (layer.Ty::Int s n))
@@ -41,6 +44,9 @@ place_text-IntType s n = ap (λ x. (ty_spelled x).place) (sym (ty.rolls-Int s n)
 pub mark_text-IntType : (s : Bool) (n : ℕ) → mark_text (ty.Int s n) ≡ codes "."
 unfolding mark_text
 mark_text-IntType s n = ap (λ x. (ty_spelled x).mark) (sym (ty.rolls-Int s n)) ∙ ap (λ s. s.mark) (fold-roll-Ty (List ℕ) (List ℕ) TyText ValueText arg_layer decl_layer ty_layer value_layer (layer.Ty::Int s n))
+
+pub place_is-IntType : (s : Bool) (n : ℕ) → place_text (ty.Int s n) ≡ ty_text (ty.Int s n)
+place_is-IntType s n = place_text-IntType s n ∙ sym (ty_text-IntType s n)
 
 pub ty_text-ErrorSetType : (ns : List (List ℕ)) → ty_text (ty.ErrorSet ns) ≡ codes "error{" ++ (commas (map name_text ns) ++ codes "}")
 unfolding ty_text decl_text arg_text
@@ -54,6 +60,9 @@ pub mark_text-ErrorSetType : (ns : List (List ℕ)) → mark_text (ty.ErrorSet n
 unfolding mark_text
 mark_text-ErrorSetType ns = ap (λ x. (ty_spelled x).mark) (sym (ty.rolls-ErrorSet ns)) ∙ ap (λ s. s.mark) (fold-roll-Ty (List ℕ) (List ℕ) TyText ValueText arg_layer decl_layer ty_layer value_layer (layer.ErrorSet ns))
 
+pub place_is-ErrorSetType : (ns : List (List ℕ)) → place_text (ty.ErrorSet ns) ≡ ty_text (ty.ErrorSet ns)
+place_is-ErrorSetType ns = place_text-ErrorSetType ns ∙ sym (ty_text-ErrorSetType ns)
+
 pub ty_text-PointerType : (c : Bool) (t : Ty) → ty_text (ty.Pointer c t) ≡ (if c then codes "*const " else codes "*") ++ ty_text t
 unfolding ty_text decl_text arg_text
 ty_text-PointerType c t = ap (λ x. (ty_spelled x).text) (sym (ty.rolls-Pointer c t)) ∙ ap (λ s. s.text) (fold-roll-Ty (List ℕ) (List ℕ) TyText ValueText arg_layer decl_layer ty_layer value_layer (layer.Pointer c t))
@@ -65,6 +74,9 @@ place_text-PointerType c t = ap (λ x. (ty_spelled x).place) (sym (ty.rolls-Poin
 pub mark_text-PointerType : (c : Bool) (t : Ty) → mark_text (ty.Pointer c t) ≡ codes "."
 unfolding mark_text
 mark_text-PointerType c t = ap (λ x. (ty_spelled x).mark) (sym (ty.rolls-Pointer c t)) ∙ ap (λ s. s.mark) (fold-roll-Ty (List ℕ) (List ℕ) TyText ValueText arg_layer decl_layer ty_layer value_layer (layer.Pointer c t))
+
+pub place_is-PointerType : (c : Bool) (t : Ty) → place_text (ty.Pointer c t) ≡ ty_text (ty.Pointer c t)
+place_is-PointerType c t = place_text-PointerType c t ∙ sym (ty_text-PointerType c t)
 
 pub ty_text-SliceType : (c : Bool) (t : Ty) → ty_text (ty.Slice c t) ≡ (if c then codes "[]const " else codes "[]") ++ ty_text t
 unfolding ty_text decl_text arg_text
@@ -78,6 +90,9 @@ pub mark_text-SliceType : (c : Bool) (t : Ty) → mark_text (ty.Slice c t) ≡ c
 unfolding mark_text
 mark_text-SliceType c t = ap (λ x. (ty_spelled x).mark) (sym (ty.rolls-Slice c t)) ∙ ap (λ s. s.mark) (fold-roll-Ty (List ℕ) (List ℕ) TyText ValueText arg_layer decl_layer ty_layer value_layer (layer.Ty::Slice c t))
 
+pub place_is-SliceType : (c : Bool) (t : Ty) → place_text (ty.Slice c t) ≡ ty_text (ty.Slice c t)
+place_is-SliceType c t = place_text-SliceType c t ∙ sym (ty_text-SliceType c t)
+
 pub ty_text-ArrayType : (n : ℕ) (t : Ty) → ty_text (ty.Array n t) ≡ codes "[" ++ (number_text n ++ (codes "]" ++ ty_text t))
 unfolding ty_text decl_text arg_text
 ty_text-ArrayType n t = ap (λ x. (ty_spelled x).text) (sym (ty.rolls-Array n t)) ∙ ap (λ s. s.text) (fold-roll-Ty (List ℕ) (List ℕ) TyText ValueText arg_layer decl_layer ty_layer value_layer (layer.Array n t))
@@ -89,6 +104,9 @@ place_text-ArrayType n t = ap (λ x. (ty_spelled x).place) (sym (ty.rolls-Array 
 pub mark_text-ArrayType : (n : ℕ) (t : Ty) → mark_text (ty.Array n t) ≡ codes "."
 unfolding mark_text
 mark_text-ArrayType n t = ap (λ x. (ty_spelled x).mark) (sym (ty.rolls-Array n t)) ∙ ap (λ s. s.mark) (fold-roll-Ty (List ℕ) (List ℕ) TyText ValueText arg_layer decl_layer ty_layer value_layer (layer.Array n t))
+
+pub place_is-ArrayType : (n : ℕ) (t : Ty) → place_text (ty.Array n t) ≡ ty_text (ty.Array n t)
+place_is-ArrayType n t = place_text-ArrayType n t ∙ sym (ty_text-ArrayType n t)
 
 pub ty_text-TerminatedType : (n : ℕ) → ty_text (ty.Terminated n) ≡ codes "[" ++ (number_text n ++ codes ":0]u8")
 unfolding ty_text decl_text arg_text
@@ -102,6 +120,9 @@ pub mark_text-TerminatedType : (n : ℕ) → mark_text (ty.Terminated n) ≡ cod
 unfolding mark_text
 mark_text-TerminatedType n = ap (λ x. (ty_spelled x).mark) (sym (ty.rolls-Terminated n)) ∙ ap (λ s. s.mark) (fold-roll-Ty (List ℕ) (List ℕ) TyText ValueText arg_layer decl_layer ty_layer value_layer (layer.Terminated n))
 
+pub place_is-TerminatedType : (n : ℕ) → place_text (ty.Terminated n) ≡ ty_text (ty.Terminated n)
+place_is-TerminatedType n = place_text-TerminatedType n ∙ sym (ty_text-TerminatedType n)
+
 pub ty_text-OptionalType : (t : Ty) → ty_text (ty.Optional t) ≡ codes "?" ++ ty_text t
 unfolding ty_text decl_text arg_text
 ty_text-OptionalType t = ap (λ x. (ty_spelled x).text) (sym (ty.rolls-Optional t)) ∙ ap (λ s. s.text) (fold-roll-Ty (List ℕ) (List ℕ) TyText ValueText arg_layer decl_layer ty_layer value_layer (layer.Optional t))
@@ -113,6 +134,9 @@ place_text-OptionalType t = ap (λ x. (ty_spelled x).place) (sym (ty.rolls-Optio
 pub mark_text-OptionalType : (t : Ty) → mark_text (ty.Optional t) ≡ codes "."
 unfolding mark_text
 mark_text-OptionalType t = ap (λ x. (ty_spelled x).mark) (sym (ty.rolls-Optional t)) ∙ ap (λ s. s.mark) (fold-roll-Ty (List ℕ) (List ℕ) TyText ValueText arg_layer decl_layer ty_layer value_layer (layer.Optional t))
+
+pub place_is-OptionalType : (t : Ty) → place_text (ty.Optional t) ≡ ty_text (ty.Optional t)
+place_is-OptionalType t = place_text-OptionalType t ∙ sym (ty_text-OptionalType t)
 
 pub ty_text-ErrorUnionType : (e t : Ty) → ty_text (ty.ErrorUnion e t) ≡ ty_text e ++ (codes "!" ++ ty_text t)
 unfolding ty_text decl_text arg_text
@@ -126,6 +150,9 @@ pub mark_text-ErrorUnionType : (e t : Ty) → mark_text (ty.ErrorUnion e t) ≡ 
 unfolding mark_text
 mark_text-ErrorUnionType e t = ap (λ x. (ty_spelled x).mark) (sym (ty.rolls-ErrorUnion e t)) ∙ ap (λ s. s.mark) (fold-roll-Ty (List ℕ) (List ℕ) TyText ValueText arg_layer decl_layer ty_layer value_layer (layer.ErrorUnion e t))
 
+pub place_is-ErrorUnionType : (e t : Ty) → place_text (ty.ErrorUnion e t) ≡ ty_text (ty.ErrorUnion e t)
+place_is-ErrorUnionType e t = place_text-ErrorUnionType e t ∙ sym (ty_text-ErrorUnionType e t)
+
 pub ty_text-ContainerType : (d : DeclPath) (n : ℕ) (l : List Arg) → ty_text (ty.Container d n l) ≡ decl_text d ++ (codes "#" ++ (number_text n ++ in_parens (map arg_text l)))
 unfolding ty_text decl_text arg_text
 ty_text-ContainerType d n l = ap (λ x. (ty_spelled x).text) (sym (ty.rolls-Container d n l)) ∙ ap (λ s. s.text) (fold-roll-Ty (List ℕ) (List ℕ) TyText ValueText arg_layer decl_layer ty_layer value_layer (layer.Container d n l))
@@ -138,6 +165,9 @@ pub mark_text-ContainerType : (d : DeclPath) (n : ℕ) (l : List Arg) → mark_t
 unfolding mark_text
 mark_text-ContainerType d n l = ap (λ x. (ty_spelled x).mark) (sym (ty.rolls-Container d n l)) ∙ ap (λ s. s.mark) (fold-roll-Ty (List ℕ) (List ℕ) TyText ValueText arg_layer decl_layer ty_layer value_layer (layer.Container d n l))
 
+pub place_is-ContainerType : (d : DeclPath) (n : ℕ) (l : List Arg) → place_text (ty.Container d n l) ≡ ty_text (ty.Container d n l)
+place_is-ContainerType d n l = place_text-ContainerType d n l ∙ sym (ty_text-ContainerType d n l)
+
 pub ty_text-FunctionType : (ps : List Ty) (r : Ty) → ty_text (ty.Function ps r) ≡ codes "fn(" ++ (commas (map ty_text ps) ++ (codes ")" ++ ty_text r))
 unfolding ty_text decl_text arg_text
 ty_text-FunctionType ps r = ap (λ x. (ty_spelled x).text) (sym (ty.rolls-Function ps r)) ∙ ap (λ s. s.text) (fold-roll-Ty (List ℕ) (List ℕ) TyText ValueText arg_layer decl_layer ty_layer value_layer (layer.Ty::Function ps r)) ∙ ap (λ xs. codes "fn(" ++ (commas xs ++ (codes ")" ++ ty_text r))) (map_map (λ p. p.text) ty_spelled ps)
@@ -149,6 +179,9 @@ place_text-FunctionType ps r = ap (λ x. (ty_spelled x).place) (sym (ty.rolls-Fu
 pub mark_text-FunctionType : (ps : List Ty) (r : Ty) → mark_text (ty.Function ps r) ≡ codes "."
 unfolding mark_text
 mark_text-FunctionType ps r = ap (λ x. (ty_spelled x).mark) (sym (ty.rolls-Function ps r)) ∙ ap (λ s. s.mark) (fold-roll-Ty (List ℕ) (List ℕ) TyText ValueText arg_layer decl_layer ty_layer value_layer (layer.Ty::Function ps r))
+
+pub place_is-FunctionType : (ps : List Ty) (r : Ty) → place_text (ty.Function ps r) ≡ ty_text (ty.Function ps r)
+place_is-FunctionType ps r = place_text-FunctionType ps r ∙ sym (ty_text-FunctionType ps r)
 
 pub ty_text-FileType : (path : List ℕ) → ty_text (ty.File path) ≡ codes "@:" ++ path
 unfolding ty_text
@@ -290,14 +323,14 @@ pub arg_text-Typed : (t : Ty) → arg_text (arg.Typed t) ≡ ty_text t
 unfolding arg_text ty_text
 arg_text-Typed t = ap arg_text (sym (arg.rolls-Typed t)) ∙ fold-roll-Arg (List ℕ) (List ℕ) TyText ValueText arg_layer decl_layer ty_layer value_layer (layer.Typed t)
 
-pub ruleset ty_texts = (ty_text-SimpleType, ty_text-IntType, ty_text-ErrorSetType, ty_text-PointerType, ty_text-SliceType, ty_text-ArrayType, ty_text-TerminatedType, ty_text-OptionalType, ty_text-ErrorUnionType, ty_text-ContainerType, ty_text-FunctionType, ty_text-FileType)
+pub ruleset ty_texts = (ty_text-SimpleType, ty_text-IntType, ty_text-ErrorSetType, ty_text-PointerType, ty_text-SliceType, ty_text-ArrayType, ty_text-TerminatedType, ty_text-OptionalType, ty_text-ErrorUnionType, ty_text-ContainerType, ty_text-FunctionType, ty_text-FileType, append_assoc)
 
-pub ruleset places = (place_text-SimpleType, mark_text-SimpleType, place_text-IntType, mark_text-IntType, place_text-ErrorSetType, mark_text-ErrorSetType, place_text-PointerType, mark_text-PointerType, place_text-SliceType, mark_text-SliceType, place_text-ArrayType, mark_text-ArrayType, place_text-TerminatedType, mark_text-TerminatedType, place_text-OptionalType, mark_text-OptionalType, place_text-ErrorUnionType, mark_text-ErrorUnionType, place_text-ContainerType, mark_text-ContainerType, place_text-FunctionType, mark_text-FunctionType, place_text-FileType, mark_text-FileType)
+pub ruleset places = (place_is-SimpleType, mark_text-SimpleType, place_is-IntType, mark_text-IntType, place_is-ErrorSetType, mark_text-ErrorSetType, place_is-PointerType, mark_text-PointerType, place_is-SliceType, mark_text-SliceType, place_is-ArrayType, mark_text-ArrayType, place_is-TerminatedType, mark_text-TerminatedType, place_is-OptionalType, mark_text-OptionalType, place_is-ErrorUnionType, mark_text-ErrorUnionType, place_is-ContainerType, mark_text-ContainerType, place_is-FunctionType, mark_text-FunctionType, place_text-FileType, mark_text-FileType)
 
-pub ruleset value_texts = (value_text-SimpleValue, value_text-IntValue, value_text-TagValue, value_text-ErrorValue, value_text-SomeValue, value_text-GoodValue, value_text-ListValue, value_text-TextValue, value_text-TaggedValue, value_text-FunctionValue, value_text-AddressValue, value_text-ConstantValue, value_text-SliceValue, value_text-TypeValue)
+pub ruleset value_texts = (value_text-SimpleValue, value_text-IntValue, value_text-TagValue, value_text-ErrorValue, value_text-SomeValue, value_text-GoodValue, value_text-ListValue, value_text-TextValue, value_text-TaggedValue, value_text-FunctionValue, value_text-AddressValue, value_text-ConstantValue, value_text-SliceValue, value_text-TypeValue, append_assoc)
 
 pub ruleset value_ty_texts = (value_ty_text-SimpleValue, value_ty_text-IntValue, value_ty_text-TagValue, value_ty_text-ErrorValue, value_ty_text-SomeValue, value_ty_text-GoodValue, value_ty_text-ListValue, value_ty_text-TextValue, value_ty_text-TaggedValue, value_ty_text-FunctionValue, value_ty_text-AddressValue, value_ty_text-ConstantValue, value_ty_text-SliceValue, value_ty_text-TypeValue)
 
-pub ruleset decl_texts = (decl_text-Named, decl_text-Comptime)
+pub ruleset decl_texts = (decl_text-Named, decl_text-Comptime, append_assoc)
 
-pub ruleset arg_texts = (arg_text-Known, arg_text-Typed)
+pub ruleset arg_texts = (arg_text-Known, arg_text-Typed, append_assoc)

@@ -1,6 +1,7 @@
 //! Types and values as plain trees.
 #![tactic(auto)]
 
+mod spell;
 mod text;
 mod tree;
 mod unit;
