@@ -1,6 +1,7 @@
 pub mod Depth
 pub mod KeyKinds
 pub mod LayerLemmas
+pub mod LengthLemmas
 pub mod ListsLemmas
 pub mod MeansLemmas
 pub mod Options

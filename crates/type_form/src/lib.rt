@@ -7,6 +7,7 @@ mod tree;
 mod unit;
 mod index;
 mod key;
+mod measure;
 mod pool;
 
 pub use index::Index;

@@ -20,7 +20,7 @@ fn is_letter(byte: u8) -> bool
 }
 
 /// A letter, a digit or `_`.
-fn is_word_byte(byte: u8) -> bool
+pub fn is_word_byte(byte: u8) -> bool
     ensures { result ≡ is_word_byte byte }
 {
     is_letter(byte) || (48 <= byte && byte <= 57)
@@ -102,7 +102,7 @@ pub fn put_number(out: &mut Vec<u8>, n: u128) -> Result<(), AllocError>
 
 /// An integer as its sign and its size.
 #[tactic(auto, using(crate::proofs::TextLemmas::int_texts))]
-fn sign_and_size(n: i128) -> (bool, u128)
+pub fn sign_and_size(n: i128) -> (bool, u128)
     ensures { int_text n ≡ (if result.0 then 45 ∷ number_text result.1 else number_text result.1) }
 {
     if n >= 0 {
