@@ -3,7 +3,10 @@ use Rattle.std.proofs.Common.{◌≡◌, ℕ, zero, suc, min, nat_lt, ◌+◌, �
 use Rattle.type_form.specs.declared.tree.Ty.{Ty}
 use Rattle.type_form.specs.declared.tree.Value.{Value}
 use Rattle.type_form.specs.declared.tree.Arg.{Arg}
-use Rattle.type_form.specs.Spelling.{quoted, quoted_byte, is_plain, name_text, number_text, commas, in_parens, ty_text, value_text, arg_text}
+use Rattle.type_form.specs.Spelling.{quoted, quoted_byte, is_plain, name_text, number_text, commas, in_parens, ty_text, value_text, arg_text, decl_text, place_text, instance_text, unit_text}
+use Rattle.type_form.specs.declared.tree.DeclPath.{DeclPath}
+use Rattle.type_form.specs.declared.unit.Instance.{Instance}
+use Rattle.type_form.specs.declared.unit.Unit.TheVariants as unit
 use Rattle.type_form.proofs.TextLemmas.{quoted-none, quoted-more, number_text-digit, number_text-step, parens-none, parens-some, commas-start, commas-more, names-none, names-start, names-more, tys-none, tys-start, tys-more, values-none, values-start, values-more, args-none, args-start, args-more}
 use Rattle.type_form.proofs.SpellLemmas.{ty_texts, value_texts, decl_texts, arg_texts}
 
@@ -44,3 +47,34 @@ pub ruleset names_lengths = (names-none, names-start, names-more, length-append)
 pub ruleset tys_lengths = (tys-none, tys-start, tys-more, length-append)
 pub ruleset values_lengths = (values-none, values-start, values-more, length-append)
 pub ruleset args_lengths = (args-none, args-start, args-more, length-append)
+
+pub instance_text-is : (n : Instance) → instance_text n ≡ decl_text n.decl ++ (codes "(" ++ (commas (map arg_text n.args) ++ codes ")"))
+unfolding instance_text
+instance_text-is n = refl
+
+pub unit_text-Decl : (d : DeclPath) → unit_text (unit.Decl d) ≡ codes "decl " ++ decl_text d
+unfolding unit_text
+unit_text-Decl d = refl
+
+pub unit_text-Body : (n : Instance) → unit_text (unit.Body n) ≡ codes "body " ++ instance_text n
+unfolding unit_text
+unit_text-Body n = refl
+
+pub unit_text-ErrorSet : (n : Instance) → unit_text (unit.ErrorSet n) ≡ codes "errset " ++ instance_text n
+unfolding unit_text
+unit_text-ErrorSet n = refl
+
+pub unit_text-Fields : (c : Ty) → unit_text (unit.Fields c) ≡ codes "fields " ++ place_text c
+unfolding unit_text
+unit_text-Fields c = refl
+
+pub unit_text-Code : (n : Instance) → unit_text (unit.Code n) ≡ codes "code " ++ instance_text n
+unfolding unit_text
+unit_text-Code n = refl
+
+pub unit_text-Comptime : (path : List ℕ) (n : ℕ) → unit_text (unit.Comptime path n) ≡ codes "comptime " ++ (path ++ (codes "#" ++ number_text n))
+unfolding unit_text
+unit_text-Comptime path n = refl
+
+pub ruleset instance_lengths = (instance_text-is, length-append)
+pub ruleset unit_lengths = (unit_text-Decl, unit_text-Body, unit_text-ErrorSet, unit_text-Fields, unit_text-Code, unit_text-Comptime, length-append)

@@ -2,6 +2,7 @@
 #![tactic(auto)]
 
 mod spell;
+mod spelling;
 mod text;
 mod tree;
 mod unit;
@@ -13,5 +14,7 @@ mod pool;
 pub use index::Index;
 pub use key::{Few, Key, KeyBuf};
 pub use pool::{InternFault, Interner, Keys};
+pub use measure::spelled_len;
+pub use spelling::{SpellFault, spell_unit, unit_len};
 pub use tree::{Arg, DeclPath, SimpleTy, SimpleValue, Ty, Value};
 pub use unit::{Instance, Unit};
