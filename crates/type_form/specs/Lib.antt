@@ -1,5 +1,6 @@
 pub mod Counts
 pub mod Denote
+pub mod Heights
 pub mod Known
 pub mod Layers
 pub mod Means
