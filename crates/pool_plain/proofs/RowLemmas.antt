@@ -97,17 +97,21 @@ Matches-added old new rows row h absent few after = record {
   where
     tested : (ws : List ℕ) (b : Bool) → bytes_eq row ws ≡ b → place_in new ws ≡ (if b then Some (length rows) else place_in old ws)
     tested ws b t = after ws ∙ ap (λ x. if x then Some (length rows) else place_in old ws) t
+
     found_in : (ws : List ℕ) (n : ℕ) (b : Bool) → bytes_eq row ws ≡ b → place_in new ws ≡ Some n → slice_get (rows ++ row ∷ []) n ≡ Some ws
     found_in ws n true t e =
         let m : Some (length rows) ≡ Some n = sym (tested ws true t) ∙ e in
         let k : length rows ≡ n = cc in
         subst (λ x. slice_get (rows ++ row ∷ []) x ≡ Some ws) k (get_last rows row ∙ ap Some ((bytes_eq-Decides row ws).0 t))
     found_in ws n false t e = get_kept rows row n ws (h.found ws n (sym (tested ws false t) ∙ e))
+
     placed_new : (ws : List ℕ) (n : ℕ) → n ≡ length rows → ws ≡ row → place_in new ws ≡ Some n
     placed_new ws n e f = tested ws true ((bytes_eq-Decides row ws).1 (sym f)) ∙ ap Some (sym e)
+
     differs : (ws : List ℕ) (n : ℕ) → place_in old ws ≡ Some n → (b : Bool) → bytes_eq row ws ≡ b → b ≡ false
     differs ws n e true t = let f : place_in old row ≡ Some n = ap (place_in old) ((bytes_eq-Decides row ws).0 t) ∙ e in let g : Some n ≡ None = sym f ∙ absent in cc
     differs ws n e false t = refl
+
     placed_old : (ws : List ℕ) (n : ℕ) → slice_get rows n ≡ Some ws → place_in new ws ≡ Some n
     placed_old ws n f = let e = h.placed ws n f in tested ws false (differs ws n e (bytes_eq row ws) refl) ∙ e
 

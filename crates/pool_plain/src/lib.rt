@@ -8,5 +8,7 @@
 #![tactic(auto)]
 
 mod pool;
+#[cfg(test)]
+mod tests;
 
 pub use pool::PlainPool;

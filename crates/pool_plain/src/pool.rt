@@ -8,11 +8,10 @@ ghost use Rattle.type_form.specs.Means.{Grows};
 ghost use Rattle.type_form.specs.Counts.{Explains};
 ghost use Rattle.pool_plain.specs.Rows.{numbered, place_in};
 
+use sqlite_items::Items;
 use std::alloc::{AllocError, Global};
 use std::collections::BTreeMap;
 use std::marker::Model;
-
-use sqlite_items::Items;
 use type_form::{Index, InternFault, Interner, KeyBuf, Keys};
 
 /// An interner for one thread, over an ordered map.

@@ -23,7 +23,6 @@ use Rattle.type_form.specs.Known.{Known, words_at, key_at, Keeps, IsInjective}
 use Rattle.type_form.specs.Words.{key_of, words_of, Fits, index_of}
 use Rattle.type_form.specs.Denote.{Node, OfTy, OfValue, OfDecl, OfInstance, OfList, Reading, option_map2, option_map3, node_of, reading, denoted, end_of, more_of, as_ty, as_value, as_decl, as_instance, as_list, as_arg, each, each_in, arg_in, ty_in, value_in, decl_in, instance_in, list_in, lists_in, tys_in, values_in, args_in}
 use Rattle.type_form.specs.Means.{IsTy, ty_at, IsValue, value_at, IsDecl, decl_at, IsInstance, instance_at, IsList, list_at, AreLists, lists_at, AreTys, tys_at, AreValues, values_at, AreArgs, args_at, DenotesTy, DenotesValue, DenotesDecl, DenotesInstance, DenotesList, DenotesLists, DenotesTys, DenotesValues, DenotesArgs, HasKey, KeepsAll, Stays, Grows, IsTyOf, IsValueOf, IsDeclOf, IsInstanceOf, IsListOf}
-
 use Rattle.type_form.proofs.Options.{one_tells, two_tells, three_tells, then_tells, ap₃}
 use Rattle.type_form.proofs.WordLemmas.{words_of-key_of}
 use Rattle.type_form.proofs.Depth.{denoted-is}
@@ -196,7 +195,6 @@ Says r (OfValue v) kk = ValueSays r (out-Value v) kk
 Says r (OfDecl d) kk = DeclSays r (out-DeclPath d) kk
 Says r (OfInstance n) kk = (d : Index) × (l : Index) × (kk ≡ key.Instance d l) × (decl_in r d ≡ Some n.decl) × (args_in r l ≡ Some n.args)
 Says r (OfList ns) kk = ((length ns ≤ 60) × (kk ≡ key.End ns)) ⊎ ((i : Index) × (60 < length ns) × (kk ≡ key.More (take 60 ns) i) × (list_in r i ≡ Some (drop 60 ns)))
-
 
 more_long : (ns ms : List ℕ) → length ns ≡ 60 → 0 < length ms → 60 < length (ns ++ ms)
 more_long ns ms h g = omega (arith, length-append ns ms)

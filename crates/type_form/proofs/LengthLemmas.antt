@@ -31,21 +31,32 @@ module _ {X : Type 0} (f : X → List ℕ) where
   step_len xs (suc i) x h g sum item new a b c =
       let more = commas-more f xs (suc i) x (omega arith) h in
       let size : length (commas (map f (take (suc i + 1) xs))) ≡ length (commas (map f (take (suc i) xs))) + (1 + length (f x)) =
-          ap length more ∙ length-append (commas (map f (take (suc i) xs))) (44 ∷ f (get_or xs (suc i) x)) ∙ ap (λ y. length (commas (map f (take (suc i) xs))) + suc (length (f y))) g ∙ omega arith in
+      ap length more ∙ length-append (commas (map f (take (suc i) xs))) (44 ∷ f (get_or xs (suc i) x)) ∙ ap (λ y. length (commas (map f (take (suc i) xs))) + suc (length (f y))) g ∙ omega arith in
       let added : new ≡ min (sum + 1 + item) 4097 = c ∙ ap (λ t. if t then min (sum + 1 + item) 4097 else item) (later i) in
       omega (arith, a, b, added, size)
 
 pub ruleset quoted_lengths = (quoted-none, quoted-more, length-append)
+
 pub ruleset name_lengths = (name_text-plain, name_text-quoted, length-append)
+
 pub ruleset number_lengths = (number_text-digit, number_text-step, length-append)
+
 pub ruleset paren_lengths = (parens-none, parens-some, commas-start, commas-more, length-append)
+
 pub ruleset ty_lengths = (ty_texts, length-append)
+
 pub ruleset value_lengths = (value_texts, length-append)
+
 pub ruleset decl_lengths = (decl_texts, length-append)
+
 pub ruleset arg_lengths = (arg_texts, length-append)
+
 pub ruleset names_lengths = (names-none, names-start, names-more, length-append)
+
 pub ruleset tys_lengths = (tys-none, tys-start, tys-more, length-append)
+
 pub ruleset values_lengths = (values-none, values-start, values-more, length-append)
+
 pub ruleset args_lengths = (args-none, args-start, args-more, length-append)
 
 pub instance_text-is : (n : Instance) → instance_text n ≡ decl_text n.decl ++ (codes "(" ++ (commas (map arg_text n.args) ++ codes ")"))
@@ -77,4 +88,5 @@ unfolding unit_text
 unit_text-Comptime path n = refl
 
 pub ruleset instance_lengths = (instance_text-is, length-append)
+
 pub ruleset unit_lengths = (unit_text-Decl, unit_text-Body, unit_text-ErrorSet, unit_text-Fields, unit_text-Code, unit_text-Comptime, length-append)

@@ -14,7 +14,6 @@ use Rattle.type_form.specs.Known.{Known, Keeps}
 use Rattle.type_form.specs.Words.{index_of}
 use Rattle.type_form.specs.Denote.{Node, OfTy, OfValue, OfDecl, OfInstance, OfList, Reading, option_map2, option_map3, node_of, reading, denoted, end_of, more_of, as_ty, as_value, as_decl, as_instance, as_list, as_arg, each, each_in, arg_in, ty_in, value_in, decl_in, instance_in, list_in, lists_in, tys_in, values_in, args_in}
 use Rattle.type_form.specs.Means.{IsTy, ty_at, IsValue, value_at, IsDecl, decl_at, IsInstance, instance_at, IsList, list_at, AreLists, lists_at, AreTys, tys_at, AreValues, values_at, AreArgs, args_at, DenotesTy, DenotesValue, DenotesDecl, DenotesInstance, DenotesList, DenotesLists, DenotesTys, DenotesValues, DenotesArgs, HasKey, KeepsAll, Stays, Grows, IsTyOf, IsValueOf, IsDeclOf, IsInstanceOf, IsListOf}
-
 use Rattle.type_form.specs.Means.{ListLists, ListTys, ListValues, ListArgs}
 use Rattle.type_form.proofs.Options.{two_tells, then_tells, each_lower}
 use Rattle.type_form.proofs.KeyKinds.{ty_in-lower, value_in-lower, list_in-lower, arg_in-lower}

@@ -16,7 +16,6 @@ use Rattle.type_form.specs.Known.{Known, words_at, key_at, Keeps, IsInjective}
 use Rattle.type_form.specs.Words.{key_of, words_of, Fits}
 use Rattle.type_form.specs.Denote.{Node, OfTy, OfValue, OfDecl, OfInstance, OfList, Reading, option_map2, option_map3, node_of, reading, denoted, end_of, more_of, as_ty, as_value, as_decl, as_instance, as_list, as_arg, each, each_in, arg_in, ty_in, value_in, decl_in, instance_in, list_in, lists_in, tys_in, values_in, args_in}
 use Rattle.type_form.specs.Means.{IsTy, ty_at, IsValue, value_at, IsDecl, decl_at, IsInstance, instance_at, IsList, list_at, AreLists, lists_at, AreTys, tys_at, AreValues, values_at, AreArgs, args_at, DenotesTy, DenotesValue, DenotesDecl, DenotesInstance, DenotesList, DenotesLists, DenotesTys, DenotesValues, DenotesArgs, HasKey, KeepsAll, Stays, Grows, IsTyOf, IsValueOf, IsDeclOf, IsInstanceOf, IsListOf}
-
 use Rattle.type_form.proofs.Options.{one_tells, two_tells, three_tells, then_tells, part, whole, some_lower, unwrap_lower, lower_refl, ap₃}
 use Rattle.type_form.proofs.KeyKinds.{Below, node_of-lower, ty_in-lower, value_in-lower, decl_in-lower, instance_in-lower, list_in-lower, lists_in-lower, tys_in-lower, values_in-lower, args_in-lower}
 use Rattle.type_form.proofs.Depth.{denoted-is, denoted-grows}

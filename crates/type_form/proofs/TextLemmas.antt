@@ -118,7 +118,6 @@ args-more xs i d p h = commas-more arg_text xs i d p h
 
 pub ruleset arg_steps = (args-none, args-start, args-more, append_assoc, append-nil)
 
-
 parens_of : (x : List ℕ) (xs : List (List ℕ)) → in_parens (x ∷ xs) ≡ codes "(" ++ (commas (x ∷ xs) ++ codes ")")
 parens_of x xs = refl
 

@@ -43,7 +43,6 @@ cut n h = omega arith
 joined : (n : ℕ) → n < 2 ^ 127 → n % 2 ^ 64 + 2 ^ 64 * (n / 2 ^ 64 % 2 ^ 63) ≡ n
 joined n h = omega arith
 
-
 pub guess-words : (k : Key) → Fits k → guess (words_of k) ≡ k
 guess-words (key.SimpleType s) h = ap (λ s. key.SimpleType s) (simple-word s)
 guess-words (key.IntType b n) h = ap₂ (λ b n. key.IntType b n) (bool-word b) (cut n h)

@@ -148,6 +148,7 @@ arg_layer (layer.Typed t) = t.text
 
 abbrev pub ty_spelled : Ty → TyText
 ty_spelled = fold-Ty (List ℕ) (List ℕ) TyText ValueText arg_layer decl_layer ty_layer value_layer
+
 abbrev pub value_spelled : Value → ValueText
 value_spelled = fold-Value (List ℕ) (List ℕ) TyText ValueText arg_layer decl_layer ty_layer value_layer
 

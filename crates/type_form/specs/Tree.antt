@@ -7,9 +7,12 @@ use Rattle.type_form.specs.declared.tree.Arg.{Arg}
 
 abbrev pub TyLayer : Type 0
 TyLayer = Ty-F Arg DeclPath Ty Value
+
 abbrev pub ValueLayer : Type 0
 ValueLayer = Value-F Arg DeclPath Ty Value
+
 abbrev pub DeclLayer : Type 0
 DeclLayer = DeclPath-F Arg DeclPath Ty Value
+
 abbrev pub ArgLayer : Type 0
 ArgLayer = Arg-F Arg DeclPath Ty Value

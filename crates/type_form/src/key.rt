@@ -1,10 +1,9 @@
 // One layer of what an index stands for, with indices in place of its parts.
 ghost use Rattle.std.specs.Prelude.{◌≡◌, ◌+◌, ◌<◌, [], ◌∷◌, ◌++◌, length, slice_index, ◌≤◌};
 
-use std::marker::Model;
-
 use crate::index::Index;
 use crate::tree::{SimpleTy, SimpleValue};
+use std::marker::Model;
 
 /// The words of a key, with room for 64.
 #[derive(Drop)]
@@ -144,48 +143,134 @@ pub enum Key {
     /// A type that is one word.
     SimpleType(SimpleTy),
     /// An integer type.
-    IntType { is_signed: bool, bits: u32 },
+    IntType {
+        is_signed: bool,
+        bits: u32,
+    },
     /// An error set: the list of its names, each itself a list of bytes.
-    ErrorSetType { names: Index },
-    PointerType { is_const: bool, child: Index },
-    SliceType { is_const: bool, child: Index },
-    ArrayType { length: u64, child: Index },
+    ErrorSetType {
+        names: Index,
+    },
+    PointerType {
+        is_const: bool,
+        child: Index,
+    },
+    SliceType {
+        is_const: bool,
+        child: Index,
+    },
+    ArrayType {
+        length: u64,
+        child: Index,
+    },
     /// `[N:0]u8`.
-    TerminatedType { length: u64 },
-    OptionalType { child: Index },
-    ErrorUnionType { set: Index, payload: Index },
+    TerminatedType {
+        length: u64,
+    },
+    OptionalType {
+        child: Index,
+    },
+    ErrorUnionType {
+        set: Index,
+        payload: Index,
+    },
     /// A file as a type: the list of its path's bytes.
-    FileType { path: Index },
+    FileType {
+        path: Index,
+    },
     /// A container: its declaration, its ordinal there, and the list of its captures.
-    ContainerType { decl: Index, ordinal: u32, captures: Index },
+    ContainerType {
+        decl: Index,
+        ordinal: u32,
+        captures: Index,
+    },
     /// A function type: the list of its parameters' types, and its result's.
-    FunctionType { params: Index, result: Index },
+    FunctionType {
+        params: Index,
+        result: Index,
+    },
     /// A value that is one word.
-    SimpleValue { ty: Index, value: SimpleValue },
-    IntValue { ty: Index, number: i128 },
-    TagValue { ty: Index, name: Index },
-    ErrorValue { ty: Index, name: Index },
-    SomeValue { ty: Index, payload: Index },
-    GoodValue { ty: Index, payload: Index },
+    SimpleValue {
+        ty: Index,
+        value: SimpleValue,
+    },
+    IntValue {
+        ty: Index,
+        number: i128,
+    },
+    TagValue {
+        ty: Index,
+        name: Index,
+    },
+    ErrorValue {
+        ty: Index,
+        name: Index,
+    },
+    SomeValue {
+        ty: Index,
+        payload: Index,
+    },
+    GoodValue {
+        ty: Index,
+        payload: Index,
+    },
     /// The list of the parts' values.
-    ListValue { ty: Index, parts: Index },
+    ListValue {
+        ty: Index,
+        parts: Index,
+    },
     /// The list of the bytes.
-    TextValue { ty: Index, bytes: Index },
-    TaggedValue { ty: Index, name: Index, payload: Index },
+    TextValue {
+        ty: Index,
+        bytes: Index,
+    },
+    TaggedValue {
+        ty: Index,
+        name: Index,
+        payload: Index,
+    },
     /// A type as a value.
-    TypeValue { of: Index },
-    FunctionValue { ty: Index, decl: Index },
-    AddressValue { ty: Index, decl: Index },
-    ConstantValue { ty: Index, target: Index },
-    SliceValue { ty: Index, pointer: Index, low: u64, high: u64 },
+    TypeValue {
+        of: Index,
+    },
+    FunctionValue {
+        ty: Index,
+        decl: Index,
+    },
+    AddressValue {
+        ty: Index,
+        decl: Index,
+    },
+    ConstantValue {
+        ty: Index,
+        target: Index,
+    },
+    SliceValue {
+        ty: Index,
+        pointer: Index,
+        low: u64,
+        high: u64,
+    },
     /// A declaration: its container's type, and the list of its name's bytes.
-    NamedDecl { container: Index, name: Index },
+    NamedDecl {
+        container: Index,
+        name: Index,
+    },
     /// A top-level `comptime` block: the list of its file's path's bytes, and its number.
-    ComptimeDecl { file: Index, number: u32 },
+    ComptimeDecl {
+        file: Index,
+        number: u32,
+    },
     /// An instance: its declaration, and the list of its arguments.
-    Instance { decl: Index, args: Index },
+    Instance {
+        decl: Index,
+        args: Index,
+    },
     /// A list of at most 60 numbers: indices, or the bytes of a text.
     End(Few),
     /// The first 60 numbers of a longer list, and the list of the others.
-    More { items: Few, rest: Index },
+    More {
+        items: Few,
+        rest: Index,
+    },
 }

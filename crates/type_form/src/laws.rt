@@ -13,16 +13,14 @@ pub fn words_are_keys()
     ensures read { (k : Key) → Fits k → key_of (words_of k) ≡ Some k }
     ensures written { (ws : List ℕ) (k : Key) → key_of ws ≡ Some k → words_of k ≡ ws }
     ensures one { (k l : Key) → Fits k → Fits l → words_of k ≡ words_of l → k ≡ l }
-{
-}
+{}
 
 /// What an index denotes is its key with what the parts denote, also where keys lead back to
 /// themselves; and it stays where every pair of index and key is kept.
 pub fn keys_denote()
     ensures layer { (k : Known) (i : Index) → denoted k i ≡ option_and_then (node_of (denoted k)) (key_at k i) }
     ensures stays { (k l : Known) → Keeps k l → (IsInjective k → IsInjective l) → Grows k l }
-{
-}
+{}
 
 /// In one table two indices are equal exactly where they denote the same.
 pub fn equal_trees_have_one_index()
@@ -31,5 +29,4 @@ pub fn equal_trees_have_one_index()
     ensures decl { (k : Known) (i j : Index) → IsInjective k → IsDecl k i → IsDecl k j → (decl_at k i ≡ decl_at k j) ↔ (i ≡ j) }
     ensures instance { (k : Known) (i j : Index) → IsInjective k → IsInstance k i → IsInstance k j → (instance_at k i ≡ instance_at k j) ↔ (i ≡ j) }
     ensures list { (k : Known) (i j : Index) → IsInjective k → IsList k i → IsList k j → (list_at k i ≡ list_at k j) ↔ (i ≡ j) }
-{
-}
+{}

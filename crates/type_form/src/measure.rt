@@ -2,11 +2,10 @@
 ghost use Rattle.std.specs.Prelude.{◌≡◌, ◌+◌, ◌∷◌, [], ◌++◌, map, codes, min, length, ◌≤◌, nat_lt, if◌then◌else◌};
 ghost use Rattle.type_form.specs.Spelling.{simple_text, known_text, name_text, number_text, int_text, quoted, quoted_byte, commas, in_parens, ty_text, place_text, mark_text, value_text, value_ty_text, decl_text, arg_text};
 
-use zw_base::Bytes;
-
 use crate::spell::{known_text, mark, simple_text};
 use crate::text::{is_plain, is_word_byte, sign_and_size};
 use crate::tree::{Arg, DeclPath, Ty, Value};
+use zw_base::Bytes;
 
 /// The sum of two lengths, where it is counted.
 pub fn add(a: u32, b: u32) -> u32
@@ -28,7 +27,11 @@ fn after(sum: u32, i: usize, item: u32) -> u32
 pub fn text_len(text: &[u8]) -> u32
     ensures { result ≡ min (length text.now) 4097 }
 {
-    if text.len() > 4097 { 4097 } else { text.len() as u32 }
+    if text.len() > 4097 {
+        4097
+    } else {
+        text.len() as u32
+    }
 }
 
 /// The length of a byte in quotes.
@@ -108,8 +111,14 @@ pub fn spelled_len(t: &Ty) -> u32
         Ty::Simple(simple) => text_len(simple_text(*simple)),
         Ty::Int { bits, .. } => add(1, number_len(u128::from(*bits))),
         Ty::ErrorSet(names) => add(7, names_len(names.as_slice())),
-        Ty::Pointer { is_const, child } => add(if *is_const { 7 } else { 1 }, spelled_len(child.get())),
-        Ty::Slice { is_const, child } => add(if *is_const { 8 } else { 2 }, spelled_len(child.get())),
+        Ty::Pointer { is_const, child } => add(
+            if *is_const { 7 } else { 1 },
+            spelled_len(child.get()),
+        ),
+        Ty::Slice { is_const, child } => add(
+            if *is_const { 8 } else { 2 },
+            spelled_len(child.get()),
+        ),
         Ty::Array { length, child } => {
             let bounds = add(2, number_len(u128::from(*length)));
             add(bounds, spelled_len(child.get()))
@@ -121,7 +130,11 @@ pub fn spelled_len(t: &Ty) -> u32
             add(front, spelled_len(payload.get()))
         }
         Ty::File(path) => add(2, text_len(path.as_slice())),
-        Ty::Container { decl, ordinal, captures } => {
+        Ty::Container {
+            decl,
+            ordinal,
+            captures,
+        } => {
             let front = add(decl_len(decl.get()), 1);
             let numbered = add(front, number_len(u128::from(*ordinal)));
             add(numbered, captures_len(captures.as_slice()))
@@ -276,7 +289,12 @@ pub fn value_len(value: &Value) -> u32
             let front = add(4, value_ty_len(target.get()));
             add(front, value_len(target.get()))
         }
-        Value::Slice { pointer, low, high, .. } => {
+        Value::Slice {
+            pointer,
+            low,
+            high,
+            ..
+        } => {
             let low = add(4, number_len(u128::from(*low)));
             let range = add(low, number_len(u128::from(*high)));
             add(value_len(pointer.get()), range)

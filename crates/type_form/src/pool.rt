@@ -5,10 +5,9 @@ ghost use Rattle.type_form.specs.Means.{Grows};
 ghost use Rattle.type_form.specs.Counts.{Explains};
 ghost use Rattle.type_form.specs.declared.pool.InternFault.TheVariants.{OutOfMemory};
 
-use std::alloc::{AllocError, AllocFailed};
-
 use crate::index::Index;
 use crate::key::KeyBuf;
+use std::alloc::{AllocError, AllocFailed};
 
 /// Why a key has no index.
 #[derive(Clone, Copy, Debug, PartialEq, Eq)]

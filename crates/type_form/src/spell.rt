@@ -2,12 +2,10 @@
 ghost use Rattle.std.specs.Prelude.{◌≡◌, ◌∷◌, [], ◌++◌, OnOk, map, codes, if◌then◌else◌};
 ghost use Rattle.type_form.specs.Spelling.{simple_text, known_text, name_text, number_text, commas, behind_commas, in_parens, ty_text, place_text, mark_text, value_text, value_ty_text, decl_text, arg_text};
 
-use std::alloc::AllocError;
-
-use zw_base::Bytes;
-
 use crate::text::{put, put_int, put_name, put_number, put_quoted};
 use crate::tree::{Arg, DeclPath, SimpleTy, SimpleValue, Ty, Value};
+use std::alloc::AllocError;
+use zw_base::Bytes;
 
 /// A simple type as text.
 pub fn simple_text(simple: SimpleTy) -> &'static [u8]
@@ -111,7 +109,11 @@ pub fn put_ty(out: &mut Vec<u8>, ty: &Ty) -> Result<(), AllocError>
             put(out, b"@:")?;
             put(out, path.as_slice())
         }
-        Ty::Container { decl, ordinal, captures } => {
+        Ty::Container {
+            decl,
+            ordinal,
+            captures,
+        } => {
             put_decl(out, decl.get())?;
             put(out, b"#")?;
             put_number(out, u128::from(*ordinal))?;
@@ -322,7 +324,12 @@ pub fn put_value(out: &mut Vec<u8>, value: &Value) -> Result<(), AllocError>
             put_decl(out, decl)
         }
         Value::Constant { target, .. } => put_constant(out, target.get()),
-        Value::Slice { pointer, low, high, .. } => {
+        Value::Slice {
+            pointer,
+            low,
+            high,
+            ..
+        } => {
             put_value(out, pointer.get())?;
             put_range(out, *low, *high)
         }

@@ -3,14 +3,12 @@ ghost use Rattle.std.specs.Prelude.{◌≡◌, ◌+◌, ◌<◌, ◌≤◌, ◌�
 ghost use Rattle.type_form.specs.Spelling.{decl_text, arg_text, commas, place_text, number_text, instance_text, unit_text};
 ghost use Rattle.type_form.specs.declared.spelling.SpellFault.TheVariants.{TooLong, OutOfMemory};
 
-use std::alloc::{AllocError, Global};
-
-use zw_bytes::ByteBuf;
-
 use crate::measure::{add, args_len, decl_len, number_len, place_len, text_len};
 use crate::spell::{put_args, put_decl, put_place};
 use crate::text::{put, put_number};
 use crate::unit::{Instance, Unit};
+use std::alloc::{AllocError, Global};
+use zw_bytes::ByteBuf;
 
 /// Why a unit is not spelled.
 #[derive(Clone, Copy, Debug, PartialEq, Eq)]

@@ -2,12 +2,10 @@
 ghost use Rattle.std.specs.Prelude.{◌≡◌, [], ◌∷◌, ◌++◌, length, OnOk, OnErr};
 ghost use Rattle.type_form.specs.Heights.{AreHigh};
 
+use crate::tree::{Ty, Value};
 use std::alloc::{AllocError, Global};
 use std::marker::Model;
-
 use zw_base::{Bytes, Seq};
-
-use crate::tree::{Ty, Value};
 
 /// What a container is.
 #[derive(Clone, Copy, Debug, PartialEq, Eq)]

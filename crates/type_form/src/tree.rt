@@ -37,21 +37,38 @@ pub enum SimpleTy {
 pub enum Ty {
     Simple(SimpleTy),
     /// `u1` to `u64`, `i1` to `i64`.
-    Int { is_signed: bool, bits: u32 },
+    Int {
+        is_signed: bool,
+        bits: u32,
+    },
     /// `error{A,B}`: the names, in byte order, each once.
     ErrorSet(Seq<Bytes>),
     /// `*T`, `*const T`.
-    Pointer { is_const: bool, child: Boxed<Ty> },
+    Pointer {
+        is_const: bool,
+        child: Boxed<Ty>,
+    },
     /// `[]T`, `[]const T`.
-    Slice { is_const: bool, child: Boxed<Ty> },
+    Slice {
+        is_const: bool,
+        child: Boxed<Ty>,
+    },
     /// `[N]T`.
-    Array { length: u64, child: Boxed<Ty> },
+    Array {
+        length: u64,
+        child: Boxed<Ty>,
+    },
     /// `[N:0]u8`, what a string literal points to.
-    Terminated { length: u64 },
+    Terminated {
+        length: u64,
+    },
     /// `?T`.
     Optional(Boxed<Ty>),
     /// `E!T`.
-    ErrorUnion { set: Boxed<Ty>, payload: Boxed<Ty> },
+    ErrorUnion {
+        set: Boxed<Ty>,
+        payload: Boxed<Ty>,
+    },
     /// The struct without fields that a file is, by the file's path.
     File(Bytes),
     /// A struct, an enum or a union: the declaration whose text has it, which container
@@ -63,7 +80,10 @@ pub enum Ty {
         captures: Items<Arg>,
     },
     /// `fn(P,Q)R`, with no parameter that is `comptime` or `anytype`.
-    Function { params: Items<Ty>, result: Boxed<Ty> },
+    Function {
+        params: Items<Ty>,
+        result: Boxed<Ty>,
+    },
 }
 
 /// A declaration, or a block at the top level of a file.
@@ -93,33 +113,75 @@ pub enum SimpleValue {
 #[cycle(tree)]
 #[derive(Drop)]
 pub enum Value {
-    Simple { ty: Ty, value: SimpleValue },
+    Simple {
+        ty: Ty,
+        value: SimpleValue,
+    },
     /// An integer.
-    Int { ty: Ty, number: i128 },
+    Int {
+        ty: Ty,
+        number: i128,
+    },
     /// A member of an enum, a member without payload of a union, or the literal `.name`.
-    Tag { ty: Ty, name: Bytes },
+    Tag {
+        ty: Ty,
+        name: Bytes,
+    },
     /// An error, of an error set or an error union.
-    Error { ty: Ty, name: Bytes },
+    Error {
+        ty: Ty,
+        name: Bytes,
+    },
     /// An optional that is not null.
-    Some { ty: Ty, payload: Boxed<Value> },
+    Some {
+        ty: Ty,
+        payload: Boxed<Value>,
+    },
     /// An error union that holds no error.
-    Good { ty: Ty, payload: Boxed<Value> },
+    Good {
+        ty: Ty,
+        payload: Boxed<Value>,
+    },
     /// The fields of a struct, or the elements of an array.
-    List { ty: Ty, parts: Items<Value> },
+    List {
+        ty: Ty,
+        parts: Items<Value>,
+    },
     /// An array of `u8` whose elements are all known.
-    Text { ty: Ty, bytes: Bytes },
+    Text {
+        ty: Ty,
+        bytes: Bytes,
+    },
     /// A member of a union with its payload.
-    Tagged { ty: Ty, name: Bytes, payload: Boxed<Value> },
+    Tagged {
+        ty: Ty,
+        name: Bytes,
+        payload: Boxed<Value>,
+    },
     /// A type as a value.
     OfType(Ty),
     /// A function.
-    Function { ty: Ty, decl: DeclPath },
+    Function {
+        ty: Ty,
+        decl: DeclPath,
+    },
     /// The address of a declaration.
-    Address { ty: Ty, decl: DeclPath },
+    Address {
+        ty: Ty,
+        decl: DeclPath,
+    },
     /// The address of a constant.
-    Constant { ty: Ty, target: Boxed<Value> },
+    Constant {
+        ty: Ty,
+        target: Boxed<Value>,
+    },
     /// A slice: the elements from `low` to before `high` of what `pointer` points to.
-    Slice { ty: Ty, pointer: Boxed<Value>, low: u64, high: u64 },
+    Slice {
+        ty: Ty,
+        pointer: Boxed<Value>,
+        low: u64,
+        high: u64,
+    },
 }
 
 /// An argument of an instance, or what a container captures.

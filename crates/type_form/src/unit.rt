@@ -1,8 +1,7 @@
 // Instances of functions, and the units of analysis.
+use crate::tree::{Arg, DeclPath, Ty};
 use sqlite_items::Items;
 use zw_base::Bytes;
-
-use crate::tree::{Arg, DeclPath, Ty};
 
 /// An instance of a function: its declaration and the arguments that are known at comptime. A
 /// parameter that gives nothing has no entry.

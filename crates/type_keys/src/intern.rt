@@ -8,9 +8,8 @@ ghost use Rattle.type_form.specs.Known.{Known, IsInjective};
 ghost use Rattle.type_form.specs.Means.{Grows, HasKey, DenotesTy, IsTyOf, DenotesValue, IsValueOf, DenotesDecl, IsDeclOf, DenotesInstance, IsInstanceOf, DenotesList, IsListOf};
 ghost use Rattle.type_form.specs.Counts.{Explains};
 
-use type_form::{Index, InternFault, Interner, Key, KeyBuf};
-
 use crate::words::words_of;
+use type_form::{Index, InternFault, Interner, Key, KeyBuf};
 
 /// The index of a key. It denotes the tree that the key stands for.
 pub fn intern_key<I: Interner>(key: &Key, p: &mut I) -> Result<Index, InternFault>

@@ -4,12 +4,10 @@ ghost use Rattle.type_form.specs.Known.{Known, IsInjective};
 ghost use Rattle.type_form.specs.Means.{Grows, IsList, list_at, DenotesList};
 ghost use Rattle.type_form.specs.Counts.{Explains};
 
-use std::alloc::AllocError;
-
-use type_form::{Few, Index, InternFault, Interner, Key, Keys};
-
 use crate::intern::intern_key;
 use crate::reads::list_key;
+use std::alloc::AllocError;
+use type_form::{Few, Index, InternFault, Interner, Key, Keys};
 
 /// The most numbers in one key.
 const CHUNK: usize = 60;

@@ -5,9 +5,8 @@ ghost use Rattle.type_form.specs.Means.{Grows, HasKey, IsTy, ty_at, IsTyOf, IsVa
 ghost use Rattle.type_form.specs.Layers.{layer_at, value_layer_at, decl_layer_at};
 ghost use Rattle.type_form.specs.declared.tree.Arg.TheViews.{out-Ty, out-Value, out-DeclPath};
 
-use type_form::{Index, Key, KeyBuf, Keys};
-
 use crate::words::key_of;
+use type_form::{Index, Key, KeyBuf, Keys};
 
 /// The key at an index that has one. Takes no memory.
 pub fn key_behind<P: Keys>(i: Index, p: &mut P) -> Key

@@ -157,7 +157,11 @@ pub fn words_of(k: &Key, into: &mut KeyBuf)
         Key::OptionalType { child } => into.set(&[8, child.0]),
         Key::ErrorUnionType { set, payload } => into.set(&[9, set.0, payload.0]),
         Key::FileType { path } => into.set(&[10, path.0]),
-        Key::ContainerType { decl, ordinal, captures } => into.set(&[11, decl.0, u64::from(*ordinal), captures.0]),
+        Key::ContainerType {
+            decl,
+            ordinal,
+            captures,
+        } => into.set(&[11, decl.0, u64::from(*ordinal), captures.0]),
         Key::FunctionType { params, result } => into.set(&[12, params.0, result.0]),
         Key::SimpleValue { ty, value } => into.set(&[13, ty.0, known_word(*value)]),
         Key::IntValue { ty, number } => {
@@ -175,7 +179,12 @@ pub fn words_of(k: &Key, into: &mut KeyBuf)
         Key::FunctionValue { ty, decl } => into.set(&[23, ty.0, decl.0]),
         Key::AddressValue { ty, decl } => into.set(&[24, ty.0, decl.0]),
         Key::ConstantValue { ty, target } => into.set(&[25, ty.0, target.0]),
-        Key::SliceValue { ty, pointer, low, high } => into.set(&[26, ty.0, pointer.0, *low, *high]),
+        Key::SliceValue {
+            ty,
+            pointer,
+            low,
+            high,
+        } => into.set(&[26, ty.0, pointer.0, *low, *high]),
         Key::NamedDecl { container, name } => into.set(&[27, container.0, name.0]),
         Key::ComptimeDecl { file, number } => into.set(&[28, file.0, u64::from(*number)]),
         Key::Instance { decl, args } => into.set(&[29, decl.0, args.0]),
@@ -196,17 +205,47 @@ fn guess_type(kind: u64, words: &[u64]) -> Key
 {
     match kind {
         1 => Key::SimpleType(simple_of(word(words, 0))),
-        2 => Key::IntType { is_signed: word(words, 0) == 1, bits: low_half(words, 1) },
-        3 => Key::ErrorSetType { names: index(words, 0) },
-        4 => Key::PointerType { is_const: word(words, 0) == 1, child: index(words, 1) },
-        5 => Key::SliceType { is_const: word(words, 0) == 1, child: index(words, 1) },
-        6 => Key::ArrayType { length: word(words, 0), child: index(words, 1) },
-        7 => Key::TerminatedType { length: word(words, 0) },
-        8 => Key::OptionalType { child: index(words, 0) },
-        9 => Key::ErrorUnionType { set: index(words, 0), payload: index(words, 1) },
-        10 => Key::FileType { path: index(words, 0) },
-        11 => Key::ContainerType { decl: index(words, 0), ordinal: low_half(words, 1), captures: index(words, 2) },
-        _ => Key::FunctionType { params: index(words, 0), result: index(words, 1) },
+        2 => Key::IntType {
+            is_signed: word(words, 0) == 1,
+            bits: low_half(words, 1),
+        },
+        3 => Key::ErrorSetType {
+            names: index(words, 0),
+        },
+        4 => Key::PointerType {
+            is_const: word(words, 0) == 1,
+            child: index(words, 1),
+        },
+        5 => Key::SliceType {
+            is_const: word(words, 0) == 1,
+            child: index(words, 1),
+        },
+        6 => Key::ArrayType {
+            length: word(words, 0),
+            child: index(words, 1),
+        },
+        7 => Key::TerminatedType {
+            length: word(words, 0),
+        },
+        8 => Key::OptionalType {
+            child: index(words, 0),
+        },
+        9 => Key::ErrorUnionType {
+            set: index(words, 0),
+            payload: index(words, 1),
+        },
+        10 => Key::FileType {
+            path: index(words, 0),
+        },
+        11 => Key::ContainerType {
+            decl: index(words, 0),
+            ordinal: low_half(words, 1),
+            captures: index(words, 2),
+        },
+        _ => Key::FunctionType {
+            params: index(words, 0),
+            result: index(words, 1),
+        },
     }
 }
 
@@ -215,20 +254,64 @@ fn guess_value(kind: u64, words: &[u64]) -> Key
     ensures { result ≡ guess_value kind words.now }
 {
     match kind {
-        13 => Key::SimpleValue { ty: index(words, 0), value: known_of(word(words, 1)) },
-        14 => Key::IntValue { ty: index(words, 0), number: int_of(word(words, 1), word(words, 2), word(words, 3)) },
-        15 => Key::TagValue { ty: index(words, 0), name: index(words, 1) },
-        16 => Key::ErrorValue { ty: index(words, 0), name: index(words, 1) },
-        17 => Key::SomeValue { ty: index(words, 0), payload: index(words, 1) },
-        18 => Key::GoodValue { ty: index(words, 0), payload: index(words, 1) },
-        19 => Key::ListValue { ty: index(words, 0), parts: index(words, 1) },
-        20 => Key::TextValue { ty: index(words, 0), bytes: index(words, 1) },
-        21 => Key::TaggedValue { ty: index(words, 0), name: index(words, 1), payload: index(words, 2) },
-        22 => Key::TypeValue { of: index(words, 0) },
-        23 => Key::FunctionValue { ty: index(words, 0), decl: index(words, 1) },
-        24 => Key::AddressValue { ty: index(words, 0), decl: index(words, 1) },
-        25 => Key::ConstantValue { ty: index(words, 0), target: index(words, 1) },
-        _ => Key::SliceValue { ty: index(words, 0), pointer: index(words, 1), low: word(words, 2), high: word(words, 3) },
+        13 => Key::SimpleValue {
+            ty: index(words, 0),
+            value: known_of(word(words, 1)),
+        },
+        14 => Key::IntValue {
+            ty: index(words, 0),
+            number: int_of(word(words, 1), word(words, 2), word(words, 3)),
+        },
+        15 => Key::TagValue {
+            ty: index(words, 0),
+            name: index(words, 1),
+        },
+        16 => Key::ErrorValue {
+            ty: index(words, 0),
+            name: index(words, 1),
+        },
+        17 => Key::SomeValue {
+            ty: index(words, 0),
+            payload: index(words, 1),
+        },
+        18 => Key::GoodValue {
+            ty: index(words, 0),
+            payload: index(words, 1),
+        },
+        19 => Key::ListValue {
+            ty: index(words, 0),
+            parts: index(words, 1),
+        },
+        20 => Key::TextValue {
+            ty: index(words, 0),
+            bytes: index(words, 1),
+        },
+        21 => Key::TaggedValue {
+            ty: index(words, 0),
+            name: index(words, 1),
+            payload: index(words, 2),
+        },
+        22 => Key::TypeValue {
+            of: index(words, 0),
+        },
+        23 => Key::FunctionValue {
+            ty: index(words, 0),
+            decl: index(words, 1),
+        },
+        24 => Key::AddressValue {
+            ty: index(words, 0),
+            decl: index(words, 1),
+        },
+        25 => Key::ConstantValue {
+            ty: index(words, 0),
+            target: index(words, 1),
+        },
+        _ => Key::SliceValue {
+            ty: index(words, 0),
+            pointer: index(words, 1),
+            low: word(words, 2),
+            high: word(words, 3),
+        },
     }
 }
 
@@ -237,11 +320,23 @@ fn guess_other(kind: u64, words: &[u64]) -> Key
     ensures { result ≡ guess_other kind words.now }
 {
     match kind {
-        27 => Key::NamedDecl { container: index(words, 0), name: index(words, 1) },
-        28 => Key::ComptimeDecl { file: index(words, 0), number: low_half(words, 1) },
-        29 => Key::Instance { decl: index(words, 0), args: index(words, 1) },
+        27 => Key::NamedDecl {
+            container: index(words, 0),
+            name: index(words, 1),
+        },
+        28 => Key::ComptimeDecl {
+            file: index(words, 0),
+            number: low_half(words, 1),
+        },
+        29 => Key::Instance {
+            decl: index(words, 0),
+            args: index(words, 1),
+        },
         30 => Key::End(first_words(words)),
-        _ => Key::More { items: first_words(from(words, 1)), rest: index(words, 0) },
+        _ => Key::More {
+            items: first_words(from(words, 1)),
+            rest: index(words, 0),
+        },
     }
 }
 

@@ -5,12 +5,15 @@ ghost use Rattle.type_form.specs.Means.{Grows, AreArgs, DenotesDecl, DenotesInst
 ghost use Rattle.type_form.specs.Counts.{Explains};
 ghost use Rattle.type_form.specs.declared.tree.DeclPath.TheVariants as decl;
 
+use crate::intern::intern_key;
 use type_form::{Index, InternFault, Interner, Key};
 
-use crate::intern::intern_key;
-
 /// A declaration, by its container's type and the list of its name's bytes.
-pub fn named_decl<I: Interner>(container: Index, name: Index, p: &mut I) -> Result<Index, InternFault>
+pub fn named_decl<I: Interner>(
+    container: Index,
+    name: Index,
+    p: &mut I,
+) -> Result<Index, InternFault>
     requires container_known { IsTy (I.known p.old) container }
     requires name_known { IsList (I.known p.old) name }
     ensures grows { Grows (I.known p.old) (I.known p.new) }

@@ -5,9 +5,8 @@ ghost use Rattle.type_form.specs.Means.{Grows, AreArgs, AreLists, AreTys, Denote
 ghost use Rattle.type_form.specs.Counts.{Explains};
 ghost use Rattle.type_form.specs.declared.tree.Ty.TheVariants as ty;
 
-use type_form::{Index, InternFault, Interner, Key, SimpleTy};
-
 use crate::intern::intern_key;
+use type_form::{Index, InternFault, Interner, Key, SimpleTy};
 
 /// A type that is one word.
 pub fn simple_type<I: Interner>(simple: SimpleTy, p: &mut I) -> Result<Index, InternFault>
@@ -47,7 +46,11 @@ pub fn error_set_type<I: Interner>(names: Index, p: &mut I) -> Result<Index, Int
 }
 
 /// A pointer type.
-pub fn pointer_type<I: Interner>(is_const: bool, child: Index, p: &mut I) -> Result<Index, InternFault>
+pub fn pointer_type<I: Interner>(
+    is_const: bool,
+    child: Index,
+    p: &mut I,
+) -> Result<Index, InternFault>
     requires { IsTy (I.known p.old) child }
     ensures grows { Grows (I.known p.old) (I.known p.new) }
     ensures agrees { IsInjective (I.known p.new) }
@@ -60,7 +63,11 @@ pub fn pointer_type<I: Interner>(is_const: bool, child: Index, p: &mut I) -> Res
 }
 
 /// A slice type.
-pub fn slice_type<I: Interner>(is_const: bool, child: Index, p: &mut I) -> Result<Index, InternFault>
+pub fn slice_type<I: Interner>(
+    is_const: bool,
+    child: Index,
+    p: &mut I,
+) -> Result<Index, InternFault>
     requires { IsTy (I.known p.old) child }
     ensures grows { Grows (I.known p.old) (I.known p.new) }
     ensures agrees { IsInjective (I.known p.new) }
@@ -111,7 +118,11 @@ pub fn optional_type<I: Interner>(child: Index, p: &mut I) -> Result<Index, Inte
 }
 
 /// An error union type.
-pub fn error_union_type<I: Interner>(set: Index, payload: Index, p: &mut I) -> Result<Index, InternFault>
+pub fn error_union_type<I: Interner>(
+    set: Index,
+    payload: Index,
+    p: &mut I,
+) -> Result<Index, InternFault>
     requires set_known { IsTy (I.known p.old) set }
     requires payload_known { IsTy (I.known p.old) payload }
     ensures grows { Grows (I.known p.old) (I.known p.new) }
@@ -138,7 +149,12 @@ pub fn file_type<I: Interner>(path: Index, p: &mut I) -> Result<Index, InternFau
 }
 
 /// A container type, by its declaration, its ordinal there and the list of its captures.
-pub fn container_type<I: Interner>(decl: Index, ordinal: u32, captures: Index, p: &mut I) -> Result<Index, InternFault>
+pub fn container_type<I: Interner>(
+    decl: Index,
+    ordinal: u32,
+    captures: Index,
+    p: &mut I,
+) -> Result<Index, InternFault>
     requires decl_known { IsDecl (I.known p.old) decl }
     requires captures_known { AreArgs (I.known p.old) captures }
     ensures grows { Grows (I.known p.old) (I.known p.new) }
@@ -148,11 +164,22 @@ pub fn container_type<I: Interner>(decl: Index, ordinal: u32, captures: Index, p
     ensures fault { IfErr result (Explains (I.fulls p.old) (I.fulls p.new)) }
     ensures ty { IfOk result (λ i. DenotesTy (I.known p.new) i (ty.Container (decl_at (I.known p.old) decl) ordinal (args_at (I.known p.old) captures))) }
 {
-    intern_key(&Key::ContainerType { decl, ordinal, captures }, p)
+    intern_key(
+        &Key::ContainerType {
+            decl,
+            ordinal,
+            captures,
+        },
+        p,
+    )
 }
 
 /// A function type, by the list of its parameters' types and its result's.
-pub fn function_type<I: Interner>(params: Index, returned: Index, p: &mut I) -> Result<Index, InternFault>
+pub fn function_type<I: Interner>(
+    params: Index,
+    returned: Index,
+    p: &mut I,
+) -> Result<Index, InternFault>
     requires params_known { AreTys (I.known p.old) params }
     requires returned_known { IsTy (I.known p.old) returned }
     ensures grows { Grows (I.known p.old) (I.known p.new) }
@@ -162,5 +189,11 @@ pub fn function_type<I: Interner>(params: Index, returned: Index, p: &mut I) -> 
     ensures fault { IfErr result (Explains (I.fulls p.old) (I.fulls p.new)) }
     ensures ty { IfOk result (λ i. DenotesTy (I.known p.new) i (ty.Function (tys_at (I.known p.old) params) (ty_at (I.known p.old) returned))) }
 {
-    intern_key(&Key::FunctionType { params, result: returned }, p)
+    intern_key(
+        &Key::FunctionType {
+            params,
+            result: returned,
+        },
+        p,
+    )
 }

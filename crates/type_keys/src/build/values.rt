@@ -5,12 +5,15 @@ ghost use Rattle.type_form.specs.Means.{Grows, AreValues, DenotesValue, IsDecl, 
 ghost use Rattle.type_form.specs.Counts.{Explains};
 ghost use Rattle.type_form.specs.declared.tree.Value.TheVariants as value;
 
+use crate::intern::intern_key;
 use type_form::{Index, InternFault, Interner, Key, SimpleValue};
 
-use crate::intern::intern_key;
-
 /// A value that is one word.
-pub fn simple_value<I: Interner>(ty: Index, simple: SimpleValue, p: &mut I) -> Result<Index, InternFault>
+pub fn simple_value<I: Interner>(
+    ty: Index,
+    simple: SimpleValue,
+    p: &mut I,
+) -> Result<Index, InternFault>
     requires { IsTy (I.known p.old) ty }
     ensures grows { Grows (I.known p.old) (I.known p.new) }
     ensures agrees { IsInjective (I.known p.new) }
@@ -120,7 +123,12 @@ pub fn text_value<I: Interner>(ty: Index, bytes: Index, p: &mut I) -> Result<Ind
 }
 
 /// A member of a union with its payload.
-pub fn tagged_value<I: Interner>(ty: Index, name: Index, payload: Index, p: &mut I) -> Result<Index, InternFault>
+pub fn tagged_value<I: Interner>(
+    ty: Index,
+    name: Index,
+    payload: Index,
+    p: &mut I,
+) -> Result<Index, InternFault>
     requires ty_known { IsTy (I.known p.old) ty }
     requires name_known { IsList (I.known p.old) name }
     requires payload_known { IsValue (I.known p.old) payload }
@@ -176,7 +184,11 @@ pub fn address_value<I: Interner>(ty: Index, decl: Index, p: &mut I) -> Result<I
 }
 
 /// The address of a constant.
-pub fn constant_value<I: Interner>(ty: Index, target: Index, p: &mut I) -> Result<Index, InternFault>
+pub fn constant_value<I: Interner>(
+    ty: Index,
+    target: Index,
+    p: &mut I,
+) -> Result<Index, InternFault>
     requires ty_known { IsTy (I.known p.old) ty }
     requires target_known { IsValue (I.known p.old) target }
     ensures grows { Grows (I.known p.old) (I.known p.new) }
@@ -190,7 +202,13 @@ pub fn constant_value<I: Interner>(ty: Index, target: Index, p: &mut I) -> Resul
 }
 
 /// A slice of what a pointer points to.
-pub fn slice_value<I: Interner>(ty: Index, pointer: Index, low: u64, high: u64, p: &mut I) -> Result<Index, InternFault>
+pub fn slice_value<I: Interner>(
+    ty: Index,
+    pointer: Index,
+    low: u64,
+    high: u64,
+    p: &mut I,
+) -> Result<Index, InternFault>
     requires ty_known { IsTy (I.known p.old) ty }
     requires pointer_known { IsValue (I.known p.old) pointer }
     ensures grows { Grows (I.known p.old) (I.known p.new) }
@@ -200,5 +218,13 @@ pub fn slice_value<I: Interner>(ty: Index, pointer: Index, low: u64, high: u64, 
     ensures fault { IfErr result (Explains (I.fulls p.old) (I.fulls p.new)) }
     ensures value { IfOk result (λ i. DenotesValue (I.known p.new) i (value.Slice (ty_at (I.known p.old) ty) (value_at (I.known p.old) pointer) low high)) }
 {
-    intern_key(&Key::SliceValue { ty, pointer, low, high }, p)
+    intern_key(
+        &Key::SliceValue {
+            ty,
+            pointer,
+            low,
+            high,
+        },
+        p,
+    )
 }

@@ -9,7 +9,7 @@ pub returns-clause-places : goal.returns-clause-places
 returns-clause-places c =
     let P = λ (n : ℕ). (cs : List ℕ) → place_in c.insert.new.self cs ≡ (if bytes_eq c.args.key.now cs then Some n else place_in c.args.places.now cs) in
     elim c.match-insert.branch [
-      in-Ok w ↦ subst (λ r. IfOk r P) (sym w.result-is)
+      | in-Ok w ↦ subst (λ r. IfOk r P) (sym w.result-is)
           (place_in-inserted c.in_ok-copy.copy.items c.args.key.now c.args.places.now c.insert.new.self _ c.in_ok-copy.ensures.items w.in-Ok.ensures.updates)
-    | in-Err w ↦ subst (λ r. IfOk r P) (sym w.result-is) tt
+      | in-Err w ↦ subst (λ r. IfOk r P) (sym w.result-is) tt
     ]

@@ -11,4 +11,3 @@ invariant-values_len-loop-i l = l.sum ≡ min (length (commas (map value_text (t
 
 abbrev pub invariant-args_len-loop-i : goal.invariant-args_len-loop-i
 invariant-args_len-loop-i l = l.sum ≡ min (length (commas (map arg_text (take l.i l.args)))) 4097
-

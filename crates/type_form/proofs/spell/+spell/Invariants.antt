@@ -11,4 +11,3 @@ invariant-put_values-loop-i l = l.out.items ≡ l.initial.out.items ++ commas (m
 
 abbrev pub invariant-put_args-loop-i : goal.invariant-put_args-loop-i
 invariant-put_args-loop-i l = l.out.items ≡ l.initial.out.items ++ commas (map arg_text (take l.i l.args))
-

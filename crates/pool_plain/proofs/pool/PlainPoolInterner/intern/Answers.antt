@@ -10,7 +10,7 @@ use Rattle.pool_plain.proofs.pool.PlainPoolInterner.intern.Goals as goal
 pub invariant_of-self : goal.invariant_of-self
 invariant_of-self c =
     subst (Matches c.add.new.places) (sym c.in_err-place-in-None.ensures.rows_stay)
-        (Matches-unchanged c.self.inside.places c.add.new.places c.self.inside.rows.items c.self.invariant c.in_err-place-in-None.ensures.places_stay)
+    (Matches-unchanged c.self.inside.places c.add.new.places c.self.inside.rows.items c.self.invariant c.in_err-place-in-None.ensures.places_stay)
 
 pub returns-in_err-place-in-None-clause-agrees : goal.returns-in_err-place-in-None-clause-agrees
 returns-in_err-place-in-None-clause-agrees c = Matches-injective c.add.new.places c.add.new.rows.items (invariant_of-self c)
@@ -30,7 +30,7 @@ returns-in-Some-clause-agrees c = subst (λ r. IsInjective (numbered 0 r)) c.sel
 pub returns-in-Some-clause-place : goal.returns-in-Some-clause-place
 returns-in-Some-clause-place c =
     subst (λ r. words_at (numbered 0 r) (index_of c.in-Some.place) ≡ Some c.args.key.now) c.self.view_is
-        (known_at c.self.inside.rows.items (index_of c.in-Some.place) ∙ c.self.invariant.found c.args.key.now c.in-Some.place (sym c.place_of.ensures ∙ c.in-Some.is))
+    (known_at c.self.inside.rows.items (index_of c.in-Some.place) ∙ c.self.invariant.found c.args.key.now c.in-Some.place (sym c.place_of.ensures ∙ c.in-Some.is))
 
 pub returns-in_ok-place-in-None-clause-grows : goal.returns-in_ok-place-in-None-clause-grows
 returns-in_ok-place-in-None-clause-grows c =
@@ -45,4 +45,4 @@ pub returns-in_ok-place-in-None-clause-place : goal.returns-in_ok-place-in-None-
 returns-in_ok-place-in-None-clause-place c =
     known_at c.add.new.rows.items (index_of c.in_ok-place-in-None.place)
     ∙ subst (λ r. (let o : Option (List ℕ) = slice_get r c.in_ok-place-in-None.place in o) ≡ Some c.args.key.now) (sym c.in_ok-place-in-None.ensures.rows)
-        (get_last-is c.self.inside.rows.items c.args.key.now c.in_ok-place-in-None.place c.in_ok-place-in-None.ensures.place)
+    (get_last-is c.self.inside.rows.items c.args.key.now c.in_ok-place-in-None.place c.in_ok-place-in-None.ensures.place)
