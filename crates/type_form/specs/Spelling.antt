@@ -1,6 +1,8 @@
 -- Types, values, declarations, instances and units as text.
-use Rattle.std.specs.Prelude.{ℕ, ◌+◌, ◌*◌, ◌/◌, ◌%◌, ◌==◌, Bool, true, false, ◌&&◌, ◌||◌, if◌then◌else◌, List, [], ◌∷◌, ◌++◌, map, nat_lt, nat_le, codes, ℤ}
-use Rattle.std.specs.List.{flat_map, list_all}
+use Rattle.std.specs.Prelude.{ℕ, ◌+◌, ◌*◌, ◌/◌, ◌%◌, ◌==◌, Bool, true, false, not, ◌&&◌, ◌||◌, if◌then◌else◌, List, [], ◌∷◌, ◌++◌, map, nat_lt, nat_le, codes, ℤ}
+use Rattle.std.specs.List.{flat_map, list_all, list_any}
+use Rattle.std.specs.Str.{bytes_eq}
+use Rattle.type_form.specs.declared.text.TheConstants.{KEYWORDS}
 use Rattle.std.specs.Fmt.{decimal, signed_decimal}
 use Rattle.type_form.specs.declared.tree.SimpleTy.{SimpleTy}
 use Rattle.type_form.specs.declared.tree.SimpleTy.TheVariants as simple
@@ -45,10 +47,14 @@ quoted_byte b = if is_word_byte b then b ∷ [] else 92 ∷ 120 ∷ hex_digit (b
 unfoldable pub quoted : List ℕ → List ℕ
 quoted bs = flat_map quoted_byte bs
 
--- whether a name can be written as it is
+-- whether a name is spelled like a keyword
+unfoldable pub is_keyword : List ℕ → Bool
+is_keyword name = list_any (λ k. bytes_eq k.now name) KEYWORDS
+
+-- whether a name can be written as it is: a letter or `_`, then letters, digits and `_`, and no keyword
 unfoldable pub is_plain : List ℕ → Bool
 is_plain [] = false
-is_plain (b ∷ bs) = is_letter b && list_all is_word_byte bs
+is_plain (b ∷ bs) = is_letter b && (list_all is_word_byte bs && not (is_keyword (b ∷ bs)))
 
 -- a name
 unfoldable pub name_text : List ℕ → List ℕ

@@ -282,6 +282,15 @@ fn plain_values(rt: HostRuntime) -> Result<(), Fail> {
         known(a, value)?.as_slice(),
         b"body m.zig:f(anyerror=error.Bad)".as_slice()
     );
+    let ty = Ty::Simple(SimpleTy::AnyError);
+    let value = Value::Error {
+        ty,
+        name: bytes(a, b"while")?,
+    };
+    assert_eq!(rt;
+        known(a, value)?.as_slice(),
+        b"body m.zig:f(anyerror=error.@\"while\")".as_slice()
+    );
     let value = Value::OfType(int(false, 1));
     assert_eq!(rt;
         known(a, value)?.as_slice(),

@@ -1,7 +1,8 @@
 // The leaves of spellings: names, numbers and quoted bytes.
 ghost use Rattle.std.specs.Prelude.{◌≡◌, ℕ, [], ◌∷◌, ◌++◌, ◌<◌, OnOk, length, if◌then◌else◌};
-ghost use Rattle.std.specs.List.{list_all};
-ghost use Rattle.type_form.specs.Spelling.{is_letter, is_word_byte, hex_digit, quoted_byte, quoted, is_plain, name_text, number_text, int_text};
+ghost use Rattle.std.specs.List.{list_all, list_any};
+ghost use Rattle.std.specs.Str.{bytes_eq};
+ghost use Rattle.type_form.specs.Spelling.{is_letter, is_word_byte, hex_digit, quoted_byte, quoted, is_keyword, is_plain, name_text, number_text, int_text};
 
 use std::alloc::{AllocError, Global};
 
@@ -64,6 +65,73 @@ fn are_word_bytes(bytes: &[u8]) -> bool
     bytes.iter().all(|byte| is_word_byte(*byte))
 }
 
+/// The keywords, which are no identifiers (Zig Language Reference, Keyword Reference).
+const KEYWORDS: [&[u8]; 49] = [
+    b"addrspace",
+    b"align",
+    b"allowzero",
+    b"and",
+    b"anyframe",
+    b"anytype",
+    b"asm",
+    b"async",
+    b"await",
+    b"break",
+    b"callconv",
+    b"catch",
+    b"comptime",
+    b"const",
+    b"continue",
+    b"defer",
+    b"else",
+    b"enum",
+    b"errdefer",
+    b"error",
+    b"export",
+    b"extern",
+    b"fn",
+    b"for",
+    b"if",
+    b"inline",
+    b"linksection",
+    b"noalias",
+    b"noinline",
+    b"nosuspend",
+    b"opaque",
+    b"or",
+    b"orelse",
+    b"packed",
+    b"pub",
+    b"resume",
+    b"return",
+    b"struct",
+    b"suspend",
+    b"switch",
+    b"test",
+    b"threadlocal",
+    b"try",
+    b"union",
+    b"unreachable",
+    b"usingnamespace",
+    b"var",
+    b"volatile",
+    b"while",
+];
+
+/// Whether one of the texts is this one.
+fn is_among(texts: &[&[u8]], name: &[u8]) -> bool
+    ensures { result ≡ list_any (λ k. bytes_eq k.now name.now) texts.now }
+{
+    texts.iter().any(|text| *text == name)
+}
+
+/// Whether a name is spelled like a keyword.
+fn is_keyword(name: &[u8]) -> bool
+    ensures { result ≡ is_keyword name.now }
+{
+    is_among(&KEYWORDS, name)
+}
+
 /// Whether a name can be written as it is.
 #[tactic(auto, unfolding(crate::specs::Spelling::is_plain))]
 pub fn is_plain(name: &[u8]) -> bool
@@ -71,7 +139,7 @@ pub fn is_plain(name: &[u8]) -> bool
 {
     match name {
         [] => false,
-        [first, rest @ ..] => is_letter(*first) && are_word_bytes(rest),
+        [first, rest @ ..] => is_letter(*first) && (are_word_bytes(rest) && !is_keyword(name)),
     }
 }
 
