@@ -1,0 +1,10 @@
+pub mod Depth
+pub mod KeyKinds
+pub mod LayerLemmas
+pub mod LengthLemmas
+pub mod ListsLemmas
+pub mod MeansLemmas
+pub mod Options
+pub mod SpellLemmas
+pub mod TextLemmas
+pub mod WordLemmas

@@ -1,0 +1,4 @@
+use Rattle.type_form.proofs.measure.+number_len.Given as goal
+
+abbrev pub decreases-number_len : goal.decreases-number_len
+decreases-number_len l = l.n

@@ -1,0 +1,31 @@
+// Keys that an interner takes.
+ghost use Rattle.std.specs.Prelude.{◌≡◌, ◌≤◌, ℕ, List, IfOk, IfErr};
+ghost use Rattle.type_form.specs.declared.tree.Ty.{Ty};
+ghost use Rattle.type_form.specs.declared.tree.Value.{Value};
+ghost use Rattle.type_form.specs.declared.tree.DeclPath.{DeclPath};
+ghost use Rattle.type_form.specs.declared.unit.Instance.{Instance};
+ghost use Rattle.type_form.specs.Known.{Known, IsInjective};
+ghost use Rattle.type_form.specs.Means.{Grows, HasKey, DenotesTy, IsTyOf, DenotesValue, IsValueOf, DenotesDecl, IsDeclOf, DenotesInstance, IsInstanceOf, DenotesList, IsListOf};
+ghost use Rattle.type_form.specs.Counts.{Explains};
+
+use crate::words::words_of;
+use type_form::{Index, InternFault, Interner, Key, KeyBuf};
+
+/// The index of a key. It denotes the tree that the key stands for.
+pub fn intern_key<I: Interner>(key: &Key, p: &mut I) -> Result<Index, InternFault>
+    ensures grows { Grows (I.known p.old) (I.known p.new) }
+    ensures agrees { IsInjective (I.known p.new) }
+    ensures home { I.home p.new ≡ I.home p.old }
+    ensures counted { I.fulls p.old ≤ I.fulls p.new }
+    ensures fault { IfErr result (Explains (I.fulls p.old) (I.fulls p.new)) }
+    ensures key { IfOk result (λ i. HasKey (I.known p.new) i key.now) }
+    ensures ty { IfOk result (λ i. (x : Ty) → IsTyOf (I.known p.old) key.now x → DenotesTy (I.known p.new) i x) }
+    ensures value { IfOk result (λ i. (x : Value) → IsValueOf (I.known p.old) key.now x → DenotesValue (I.known p.new) i x) }
+    ensures decl { IfOk result (λ i. (x : DeclPath) → IsDeclOf (I.known p.old) key.now x → DenotesDecl (I.known p.new) i x) }
+    ensures instance { IfOk result (λ i. (x : Instance) → IsInstanceOf (I.known p.old) key.now x → DenotesInstance (I.known p.new) i x) }
+    ensures list { IfOk result (λ i. (x : List ℕ) → IsListOf (I.known p.old) key.now x → DenotesList (I.known p.new) i x) }
+{
+    let mut words = KeyBuf::new();
+    words_of(key, &mut words);
+    p.intern(words.as_slice())
+}
