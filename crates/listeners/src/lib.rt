@@ -9,4 +9,4 @@
 
 mod tell;
 
-
+pub use tell::tell_all;
