@@ -1,0 +1,96 @@
+// Whether a command may be carried out: its path is there, and no limit is passed.
+ghost use Rattle.std.specs.Prelude.{◌≡◌, ◌≤◌, ◌<◌, ◌+◌, ◌^◌, nat_lt, length, if◌then◌else◌};
+ghost use Rattle.std.specs.List.{list_any};
+ghost use Rattle.script_read.specs.Sizes.{AreWithin, allowed, file_allowed, has_path, others, total};
+
+use crate::command::{Limits, Refusal, Request};
+use zw_base::{FilePath, FileSizes, Reason, Which};
+
+/// Whether a command may be carried out after `commands` others, for the files as it would leave them.
+pub fn allow(
+    limits: Limits,
+    commands: u32,
+    have: &FileSizes,
+    asked: &Request,
+) -> Result<(), Refusal>
+    requires within { AreWithin limits have.now }
+    ensures { result ≡ allowed limits commands have.now asked.now }
+{
+    match asked {
+        Request::File { path, len } => {
+            allow_command(limits, commands)?;
+            allow_file(limits, have.as_slice(), path, *len)
+        }
+        Request::Drop { path } => {
+            if !is_held(have.as_slice(), path) {
+                return Err(Refusal::Bad(Reason::AbsentPath));
+            }
+            allow_command(limits, commands)
+        }
+        Request::Update => allow_command(limits, commands),
+    }
+}
+
+/// One more command after `commands` others.
+fn allow_command(limits: Limits, commands: u32) -> Result<(), Refusal>
+    ensures { result ≡ (if nat_lt limits.commands (commands + 1) then Err (Refusal.Over Which.Commands) else Ok tt) }
+{
+    if commands >= limits.commands {
+        Err(Refusal::Over(Which::Commands))
+    } else {
+        Ok(())
+    }
+}
+
+/// A file of `len` bytes in place of the one with its path, or beside the others.
+fn allow_file(
+    limits: Limits,
+    have: &[(FilePath, u64)],
+    path: &FilePath,
+    len: u64,
+) -> Result<(), Refusal>
+    requires { total have.now ≤ limits.total_bytes }
+    ensures { result ≡ file_allowed limits (others path.now have.now) len }
+{
+    if len > u64::from(limits.file_bytes) {
+        return Err(Refusal::Over(Which::FileBytes));
+    }
+    let beside = tally_others(have, path);
+    if beside.files >= u64::from(limits.files) {
+        return Err(Refusal::Over(Which::Files));
+    }
+    if beside.bytes + len > u64::from(limits.total_bytes) {
+        return Err(Refusal::Over(Which::TotalBytes));
+    }
+    Ok(())
+}
+
+/// How many files there are, and how many bytes they have.
+#[derive(Clone, Copy)]
+struct Tally {
+    files: u64,
+    bytes: u64,
+}
+
+/// The files with other paths.
+fn tally_others(have: &[(FilePath, u64)], path: &FilePath) -> Tally
+    requires { total have.now < 2 ^ 32 }
+    ensures files { result.files ≡ length (others path.now have.now) }
+    ensures bytes { result.bytes ≡ total (others path.now have.now) }
+{
+    let mut tally = Tally { files: 0, bytes: 0 };
+    for (held, len) in have {
+        if *held != *path {
+            tally.files += 1;
+            tally.bytes += *len;
+        }
+    }
+    tally
+}
+
+/// Whether a file has this path.
+fn is_held(have: &[(FilePath, u64)], path: &FilePath) -> bool
+    ensures { result ≡ list_any (has_path path.now) have.now }
+{
+    have.iter().any(|(held, _)| *held == *path)
+}
