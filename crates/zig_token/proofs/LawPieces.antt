@@ -12,7 +12,8 @@ use Rattle.zig_token.specs.declared.fault.LexFault.TheVariants.{BadByte}
 use Rattle.zig_token.specs.declared.piece.Piece.TheVariants as pieces
 use Rattle.zig_token.specs.Scan.{◌>>=◌, as_token, line_end, lines_end, quoted_end, char_end, name_end, number_end, at_sign, symbol_at, word_or_symbol, token_at, piece_at}
 use Rattle.zig_token.proofs.LawChars.{line_ended, line_is_wrong}
-use Rattle.zig_token.proofs.LawQuotes.{lex_fault, string_read, string_fault_read, literal_read, literal_fault_read}
+use Rattle.zig_token.proofs.LawQuotes.{string_read, string_fault_read, literal_read, literal_fault_read}
+use Rattle.zig_token.specs.Answer.{lex_fault}
 use Rattle.zig_token.proofs.LawWords.{name_longest, number_read, no_number_read}
 use Rattle.zig_token.proofs.LawLines.{lines_read, lines_fault_read}
 use Rattle.zig_token.proofs.LawSymbols.{Longest, HeadOnly, symbol_long, symbol_longest, symbol_length, symbol_head, symbol_found}

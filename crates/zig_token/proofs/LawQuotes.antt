@@ -2,6 +2,7 @@
 use Rattle.std.proofs.Common.{◌≡◌, ◌≢◌, ℕ, ◌+◌, ◌<◌, ◌≤◌, true, false, not, List, length, get_or, drop, Ok, Err, refl, sym, ap, ◌∙◌, ◌⊎◌, inl, inr, arith, eqb, ◌&&◌}
 use Rattle.std.proofs.lemmas.Bool.{cases_Bool, cases_lt, cases_eq, and_parts, ne_eqb, eqb-false, not-true}
 use Rattle.zig_tree.specs.TokenBytes.{is_within, char_len, ends_line}
+use Rattle.zig_token.specs.Answer.{lex_fault}
 use Rattle.zig_tree.specs.Tokens as rel
 use Rattle.zig_tree.specs.Tokens.{Fault, bad_byte, bad_escape, open_string, bad_number, Run, IsChar, IsWrong, IsEscape, Breaks, IsItem, IsString, string, Misfit, StringFault, IsCharItem, IsLiteral, CharMisfit, LiteralFault}
 use Rattle.zig_token.specs.declared.fault.LexFault.{LexFault}
@@ -12,13 +13,6 @@ use Rattle.zig_token.proofs.Quotes.{quoted_ends, quoted_wrong, quoted_further, q
 use Rattle.zig_token.proofs.Runs.{run_passes, run_rises, run_stops}
 use Rattle.zig_token.proofs.LawChars.{char_unended, char_rises, within_unended, end_no_char, quote_char, slash_char, LineStop, ends, wrong, char_or_stop}
 use Rattle.zig_token.proofs.LawEscapes.{escape_read, break_read, escape_outcome, escape_rises}
-
--- a fault of the relation, as the call answers it
-abbrev pub lex_fault : Fault → LexFault
-lex_fault (bad_byte at) = BadByte at
-lex_fault (bad_escape at) = BadEscape at
-lex_fault (open_string at) = OpenString at
-lex_fault (bad_number at) = BadNumber at
 
 misfit_is : (text : List ℕ) (q s w : ℕ) (fault : Fault) → Misfit text q s w fault → misfit text q s w ≡ lex_fault fault
 unfolding misfit

@@ -16,11 +16,12 @@ use Rattle.zig_token.specs.declared.fault.LexFault.TheVariants.{BadByte, BadEsca
 use Rattle.zig_token.specs.declared.piece.Piece.{Piece}
 use Rattle.zig_token.specs.declared.piece.Piece.TheVariants as pieces
 use Rattle.zig_token.specs.Scan.{◌>>=◌, as_token, name_end, piece_at, tokens_from, tokens_of, token_from, Gives}
-use Rattle.zig_token.specs.Answer.{ShowsFirst, Answers}
+use Rattle.zig_token.specs.Answer.{ShowsFirst, Answers, told}
 use Rattle.zig_token.proofs.Skips.{within_text, passed, here}
 use Rattle.zig_token.proofs.Lines.{begins_fits}
 use Rattle.zig_token.proofs.LawChars.{char_rises, line_means, LineStop, ends, wrong}
-use Rattle.zig_token.proofs.LawQuotes.{lex_fault, string_read, string_outcome, string_rises, literal_read, literal_outcome, literal_rises}
+use Rattle.zig_token.proofs.LawQuotes.{string_read, string_outcome, string_rises, literal_read, literal_outcome, literal_rises}
+use Rattle.zig_token.specs.Answer.{lex_fault}
 use Rattle.zig_token.proofs.LawWords.{name_longest, name_means, number_read, number_outcome, number_rises}
 use Rattle.zig_token.proofs.LawLines.{lines_read, lines_outcome, lines_rises}
 use Rattle.zig_token.proofs.LawSymbols.{symbol_long, symbol_found}
@@ -241,11 +242,6 @@ reads_some text (suc n) a far le =
     by_piece (wrong_here fault s) rest = (Err fault, shown none s)
 
 -- ---- what the function on lists answers
-
--- the outcome as the call answers it
-abbrev pub told : Result (List Token) Fault → Result (List Token) LexFault
-told (Ok tokens) = Ok tokens
-told (Err fault) = Err (lex_fault fault)
 
 gap_step : (text : List ℕ) (a b : ℕ) → IsSeparator text a b → tokens_from text a 0 (drop a text) ≡ tokens_from text b 0 (drop b text)
 unfolding tokens_from

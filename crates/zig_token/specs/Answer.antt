@@ -22,3 +22,15 @@ Answers (Err (BadEscape at)) outcome = outcome ≡ Err (bad_escape at)
 Answers (Err (OpenString at)) outcome = outcome ≡ Err (open_string at)
 Answers (Err (BadNumber at)) outcome = outcome ≡ Err (bad_number at)
 Answers (Err OutOfMemory) outcome = Unit {0}
+
+-- a fault of the relation, as the call answers it
+abbrev pub lex_fault : Fault → LexFault
+lex_fault (bad_byte at) = BadByte at
+lex_fault (bad_escape at) = BadEscape at
+lex_fault (open_string at) = OpenString at
+lex_fault (bad_number at) = BadNumber at
+
+-- the outcome as the call answers it
+abbrev pub told : Result (List Token) Fault → Result (List Token) LexFault
+told (Ok tokens) = Ok tokens
+told (Err fault) = Err (lex_fault fault)

@@ -2,7 +2,7 @@
 ghost use Rattle.std.specs.Prelude.{◌≡◌, ◌≤◌, ◌<◌, ◌^◌, ℕ, List, length, Result, IfOk, IfErr};
 ghost use Rattle.zig_tree.specs.declared.token.Token.{Token};
 ghost use Rattle.zig_tree.specs.Tokens.{Fault, Reads};
-ghost use Rattle.zig_token.specs.Answer.{ShowsFirst, Answers};
+ghost use Rattle.zig_token.specs.Answer.{ShowsFirst, Answers, told};
 ghost use Rattle.zig_token.specs.Scan.{tokens_of, token_from, Gives};
 ghost use Rattle.zig_tree.specs.TokenBytes.{text_start};
 
@@ -82,7 +82,8 @@ pub fn one_outcome()
     ensures { (text : List ℕ) (x y : Result (List Token) Fault) → Reads text x → Reads text y → x ≡ y }
 {}
 
-/// Each text has a list of tokens or a fault.
+/// Each text has a list of tokens or a fault, and the function on lists tells which.
 pub fn some_outcome()
-    ensures { (text : List ℕ) → (outcome : Result (List Token) Fault) × Reads text outcome }
+    ensures some { (text : List ℕ) → (outcome : Result (List Token) Fault) × Reads text outcome }
+    ensures told { (text : List ℕ) (outcome : Result (List Token) Fault) → Reads text outcome → tokens_of text ≡ told outcome }
 {}
