@@ -1,17 +1,11 @@
 -- Where the bytes behind a line are read: how each way out agrees with the bytes that were left.
-use Rattle.std.proofs.Common.{◌≡◌, ℕ, ◌+◌, ◌≤◌, ◌==◌, nat_le, true, false, List, [], ◌∷◌, ◌++◌, length, take, drop, get_or, Option, None, Some, IfSome, Ok, Err, refl, append_assoc, append-nil, arith, inr, length-append}
+use Rattle.std.proofs.Common.{◌≡◌, ℕ, ◌+◌, nat_le, false, List, [], ◌∷◌, ◌++◌, length, take, drop, get_or, Option, None, Some, Ok, refl, append_assoc, arith, length-append}
 use Rattle.std.proofs.lemmas.Bool.Decides.{nat_tests}
 use Rattle.std.proofs.Math.Seq.{take-add, take-append_seam, drop-append-add}
 use Rattle.std.specs.Option.{option_map}
-use Rattle.zw_base.specs.declared.reason.Reason.TheVariants.{CutShort, MissingEnd}
-use Rattle.script_read.specs.declared.command.Refusal.TheVariants.{Bad, ReadFault}
 use Rattle.script_read.specs.Script.{content_at}
 use Rattle.script_read.specs.Reads.{Reads}
 use Rattle.script_read.proofs.LineReads.{more_read}
-
--- too few bytes are cut short
-pub content_cut : (len : ℕ) (bytes : List ℕ) → length bytes ≤ len → content_at len bytes ≡ Err (Bad CutShort)
-content_cut len bytes few = let e : nat_le (length bytes) len ≡ true = grind (arith, nat_tests) in rw e refl
 
 get_seam : (content : List ℕ) (b : ℕ) (rest : List ℕ) → get_or (content ++ b ∷ rest) (length content) 0 ≡ b
 get_seam [] b rest = refl
@@ -27,39 +21,12 @@ content_found_at content rest =
 pub content_found : (len : ℕ) (content rest : List ℕ) → length content ≡ len → content_at len (content ++ 10 ∷ rest) ≡ Ok (content, rest)
 content_found len content rest e = rw (← e) (content_found_at content rest)
 
-content_unended_at : (content : List ℕ) (b : ℕ) (rest : List ℕ) → (b == 10) ≡ false → content_at (length content) (content ++ b ∷ rest) ≡ Err (Bad MissingEnd)
-content_unended_at content b rest other = rw (more_than content b rest, get_seam content b rest, other) refl
-
-pub content_unended : (len : ℕ) (content : List ℕ) (b : ℕ) (rest : List ℕ) → length content ≡ len → (b == 10) ≡ false → content_at len (content ++ b ∷ rest) ≡ Err (Bad MissingEnd)
-content_unended len content b rest e other = rw (← e) (content_unended_at content b rest other)
-
-fault_at : {X : Type 0} (view : X → List ℕ) (len : ℕ) (new : Option (List ℕ)) (front : List ℕ) → length front ≤ len → Reads view (content_at len) (option_map (λ rest. front ++ rest) new) new (Err ReadFault)
-fault_at view len None front few = tt
-fault_at view len (Some rest) front few = (front, rest, refl, refl, inr (content_cut len front few))
-
-pub content_fault : {X : Type 0} (view : X → List ℕ) (len : ℕ) (old new : Option (List ℕ)) (front : List ℕ) → old ≡ option_map (λ rest. front ++ rest) new → length front ≤ len → Reads view (content_at len) old new (Err ReadFault)
-content_fault view len old new front e few = rw e (fault_at view len new front few)
-
-cut_at : {X : Type 0} (view : X → List ℕ) (len : ℕ) (mid new : Option (List ℕ)) (front : List ℕ) → IfSome mid (λ bytes. bytes ≡ []) → length front ≤ len → Reads view (content_at len) (option_map (λ rest. front ++ rest) mid) new (Err (Bad CutShort))
-cut_at view len None new front h few = tt
-cut_at view len (Some rest) new front h few = rw (h, append-nil front) (content_cut len front few)
-
-pub content_ends : {X : Type 0} (view : X → List ℕ) (len : ℕ) (old mid new : Option (List ℕ)) (front : List ℕ) → old ≡ option_map (λ rest. front ++ rest) mid → IfSome mid (λ bytes. bytes ≡ []) → length front ≤ len → Reads view (content_at len) old new (Err (Bad CutShort))
-content_ends view len old mid new front e h few = rw e (cut_at view len mid new front h few)
-
 whole_at : {X : Type 0} (view : X → List ℕ) (len : ℕ) (new : Option (List ℕ)) (x : X) → length (view x) ≡ len → Reads view (content_at len) (option_map (λ rest. (view x ++ 10 ∷ []) ++ rest) new) new (Ok x)
 whole_at view len None x e = tt
 whole_at view len (Some rest) x e = (rest, refl, rw (append_assoc (view x) (10 ∷ []) rest) (content_found len (view x) rest e))
 
 pub content_whole : {X : Type 0} (view : X → List ℕ) (len : ℕ) (old mid new : Option (List ℕ)) (x : X) → old ≡ option_map (λ rest. view x ++ rest) mid → mid ≡ option_map (λ rest. (10 ∷ []) ++ rest) new → length (view x) ≡ len → Reads view (content_at len) old new (Ok x)
 content_whole view len old mid new x e f is = rw (more_read old mid new (view x) (10 ∷ []) e f) (whole_at view len new x is)
-
-other_at : {X : Type 0} (view : X → List ℕ) (len : ℕ) (new : Option (List ℕ)) (front : List ℕ) (b : ℕ) → length front ≡ len → (b == 10) ≡ false → Reads view (content_at len) (option_map (λ rest. (front ++ b ∷ []) ++ rest) new) new (Err (Bad MissingEnd))
-other_at view len None front b e other = tt
-other_at view len (Some rest) front b e other = rw (append_assoc front (b ∷ []) rest) (content_unended len front b rest e other)
-
-pub content_other : {X : Type 0} (view : X → List ℕ) (len : ℕ) (old mid new : Option (List ℕ)) (front : List ℕ) (b : ℕ) → old ≡ option_map (λ rest. front ++ rest) mid → mid ≡ option_map (λ rest. (b ∷ []) ++ rest) new → length front ≡ len → (b == 10) ≡ false → Reads view (content_at len) old new (Err (Bad MissingEnd))
-content_other view len old mid new front b e f is other = rw (more_read old mid new front (b ∷ []) e f) (other_at view len new front b is other)
 
 -- one more part behind what came before
 pub more_came : (old mid new : Option (List ℕ)) (at n : ℕ) (before after : List ℕ) → old ≡ option_map (λ rest. take at before ++ rest) mid →

@@ -1,10 +1,10 @@
 -- The line at the front of a script, by the bytes before its LF.
-use Rattle.std.proofs.Common.{◌≡◌, ℕ, ◌+◌, ◌<◌, ◌≤◌, ◌==◌, nat_lt, Bool, true, false, ◌||◌, List, [], ◌∷◌, ◌++◌, length, take, Ok, Err, refl, suc, zero, arith, length-append, if◌then◌else◌}
+use Rattle.std.proofs.Common.{◌≡◌, ℕ, ◌+◌, ◌<◌, ◌≤◌, ◌==◌, nat_lt, Bool, true, false, ◌||◌, List, [], ◌∷◌, ◌++◌, length, take, Ok, Err, refl, suc, zero, arith, if◌then◌else◌}
 use Rattle.std.proofs.lemmas.Bool.Decides.{nat_tests}
 use Rattle.std.specs.List.{list_any, position_or_len}
 use Rattle.std.proofs.Math.Seq.{take-append_seam, drop-append-add}
 use Rattle.std.proofs.lemmas.List.{take_all}
-use Rattle.zw_base.specs.declared.reason.Reason.TheVariants.{LineTooLong, CutShort}
+use Rattle.zw_base.specs.declared.reason.Reason.TheVariants.{CutShort}
 use Rattle.script_read.specs.declared.command.Refusal.TheVariants.{End, Bad}
 use Rattle.script_read.specs.Line.{is_line_end, line_at}
 
@@ -37,12 +37,6 @@ end_in_front (b ∷ line) rest (suc n) h = or_true _ _ (end_in_front line rest n
 pub line_found : (most : ℕ) (line rest : List ℕ) → HasNoEnd line → length line ≤ most → line_at most (line ++ 10 ∷ rest) ≡ Ok (line, rest)
 line_found most line rest h fits =
     rw (end_in_front line rest (most + 1) (omega arith), first_end line rest h, take-append_seam line (10 ∷ rest), drop-append-add line (10 ∷ rest) 1) refl
-
-pub line_too_long : (most : ℕ) (line rest : List ℕ) → HasNoEnd line → length line ≡ most + 1 → line_at most (line ++ rest) ≡ Err (Bad LineTooLong)
-line_too_long most line rest h long =
-    let front : take (most + 1) (line ++ rest) ≡ line = rw (← long) (take-append_seam line rest) in
-    let over : nat_lt most (length (line ++ rest)) ≡ true = rw (length-append line rest, long) (grind (arith, nat_tests)) in
-    rw (front, h, over) refl
 
 -- the input ends in a line
 pub line_unended : (most : ℕ) (line : List ℕ) → HasNoEnd line → length line ≤ most → line_at most line ≡ (if length line == 0 then Err End else Err (Bad CutShort))

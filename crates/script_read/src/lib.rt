@@ -17,3 +17,6 @@ mod steps;
 
 pub use command::{Command, Limits, Next};
 pub use reader::ScriptReader;
+
+#[cfg(test)]
+mod tests;

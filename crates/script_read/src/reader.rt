@@ -50,6 +50,7 @@ impl ScriptReader {
 
         // Where it has not stopped, the answer is the one of the bytes that were left.
         ensures told { IfNone self.old.stopped (IfSome (S.left s.old) (λ bytes. Answers self.old have.now bytes (S.left s.new) result)) }
+        ensures limits { self.new.limits ≡ self.old.limits }
         ensures after { IfNone self.old.stopped (self.new ≡ after self.old result) }
 
         // Once it has stopped it gives the same again, and reads nothing.
