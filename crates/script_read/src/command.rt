@@ -100,14 +100,3 @@ impl<T: Drop> From<AllocFailed<T>> for Refusal {
         Refusal::OutOfMemory
     }
 }
-
-impl From<Reason> for Refusal {
-    ghost use Rattle.std.specs.Prelude.{◌≡◌};
-    ghost use Rattle.script_read.specs.declared.command.Refusal.TheVariants.{Bad};
-
-    ghost from_gives = { λ reason e. e ≡ Bad reason };
-
-    fn from(reason: Reason) -> Refusal {
-        Refusal::Bad(reason)
-    }
-}
