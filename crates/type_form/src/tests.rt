@@ -383,6 +383,12 @@ fn addresses(rt: HostRuntime) -> Result<(), Fail> {
         known(a, value)?.as_slice(),
         b"body m.zig:f(*u8=&m.zig:f)".as_slice()
     );
+    Ok(())
+}
+
+#[test]
+fn slice_of_a_constant(rt: HostRuntime) -> Result<(), Fail> {
+    let a = rt.alloc();
     let ty = Ty::Pointer {
         is_const: true,
         child: Boxed::new(a, int(false, 8))?,
