@@ -153,14 +153,7 @@ fn says_why_a_file_was_not_read(rt: HostRuntime) -> Result<(), Fail> {
         &mut out,
     );
     assert_eq!(rt; status.code(), 6, "the second call does not fail");
-    assert_eq!(rt; out.taken().len(), 0, "nothing is written");
-    Ok(())
-}
 
-#[test]
-fn refuses_a_long_file_and_a_wrong_path(rt: HostRuntime) -> Result<(), Fail> {
-    let alloc = rt.alloc();
-    let mut out = MemSink::new(alloc, 1_000, 1_000, calls(alloc, None)?)?;
     let long = vec![in alloc; b' '; 1_048_577]?;
     let mut held = MemFiles::new(files(alloc, long.as_slice())?, calls(alloc, None)?);
     let status = run_once(
