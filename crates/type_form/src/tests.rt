@@ -386,24 +386,32 @@ fn addresses(rt: HostRuntime) -> Result<(), Fail> {
     Ok(())
 }
 
+/// `&(u8=6)`, a pointer to a constant.
+fn pointer_to_six(alloc: Global) -> Result<Boxed<Value>, AllocError> {
+    let child = Boxed::new(alloc, int(false, 8))?;
+    let target = Boxed::new(alloc, one(6))?;
+    let ty = Ty::Pointer {
+        is_const: true,
+        child,
+    };
+    Boxed::new(alloc, Value::Constant { ty, target })
+}
+
+/// `[]const u8`.
+fn slice_of_bytes(alloc: Global) -> Result<Ty, AllocError> {
+    let child = Boxed::new(alloc, int(false, 8))?;
+    Ok(Ty::Slice {
+        is_const: true,
+        child,
+    })
+}
+
 #[test]
 fn slice_of_a_constant(rt: HostRuntime) -> Result<(), Fail> {
     let a = rt.alloc();
-    let ty = Ty::Pointer {
-        is_const: true,
-        child: Boxed::new(a, int(false, 8))?,
-    };
-    let pointer = Value::Constant {
-        ty,
-        target: Boxed::new(a, one(6))?,
-    };
-    let ty = Ty::Slice {
-        is_const: true,
-        child: Boxed::new(a, int(false, 8))?,
-    };
     let value = Value::Slice {
-        ty,
-        pointer: Boxed::new(a, pointer)?,
+        ty: slice_of_bytes(a)?,
+        pointer: pointer_to_six(a)?,
         low: 0,
         high: 1,
     };
