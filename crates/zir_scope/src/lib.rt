@@ -1,0 +1,19 @@
+//! Which name stands for what, and what a file's scopes show to be wrong.
+#![tactic(auto)]
+
+mod bindings;
+mod binders;
+mod changes;
+mod event;
+mod facts;
+mod outline;
+mod place;
+mod roles;
+mod rows;
+
+pub use bindings::{Binding, Bindings};
+pub use event::{Event, Sort, Target};
+pub use facts::Fact;
+pub use outline::Outline;
+pub use place::{Exit, Reading};
+pub use roles::{Mark, Role, mark_of, role_of};
