@@ -136,3 +136,20 @@ take_without_last n bs h = take-take n (length bs - 1) bs (omega arith)
 pub none_alone : (P : Option ℕ → Type 0) → ((v : ℕ) → P (Some v) → ⊥) → (o : Option ℕ) → P o → o ≡ None
 none_alone P h None p = refl
 none_alone P h (Some v) p = absurd (h v p)
+
+none_end : (newest : List (Option ℕ)) (name : ℕ) → get_or (newest ++ None ∷ []) name None ≡ get_or newest name None
+none_end [] zero = refl
+none_end [] (suc n) = refl
+none_end (o ∷ os) zero = refl
+none_end (o ∷ os) (suc n) = none_end os n
+
+hide_wider : (names wider : ℕ) (before : List Binding) (rows : List Row) → names ≤ wider → Hide names before rows → Hide wider before rows
+hide_wider names wider before [] h k = tt
+hide_wider names wider before (r ∷ rows) h k = (omega (arith, h, k.0), k.1, hide_wider names wider (before ++ r.binding ∷ []) rows h k.2)
+
+-- room for one more name changes nothing
+pub Agrees-wider : (newest : List (Option ℕ)) (rows : List Row) → Agrees newest rows → Agrees (newest ++ None ∷ []) rows
+Agrees-wider newest rows h = record {
+  last = λ name. none_end newest name ∙ h.last name;
+  hide = let l = length-append newest (None ∷ []) in hide_wider (length newest) (length (newest ++ None ∷ [])) [] rows (omega (arith, l)) h.hide;
+}

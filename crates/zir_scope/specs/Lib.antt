@@ -5,3 +5,4 @@ pub mod Roles
 pub mod Binders
 pub mod Changes
 pub mod Scoping
+pub mod State

@@ -42,14 +42,14 @@ name_of None = 0
 name_of (Some f) = f.name
 
 -- the name of a token, as the number of the first identifier that has it
-abbrev pub name_at : List Fact → ℕ → ℕ
+unfoldable pub name_at : List Fact → ℕ → ℕ
 name_at facts t = name_of (slice_get facts t)
 
 abbrev pub is_primitive_of : Option Fact → Bool
 is_primitive_of None = false
 is_primitive_of (Some f) = f.is_primitive
 
-abbrev pub is_primitive_at : List Fact → ℕ → Bool
+unfoldable pub is_primitive_at : List Fact → ℕ → Bool
 is_primitive_at facts t = is_primitive_of (slice_get facts t)
 
 -- what a name that is no local and no declaration is
@@ -67,7 +67,7 @@ local_or None later = later
 
 -- what a name stands for: a local, else a declaration of the innermost container that has one, else a
 -- primitive, else nothing
-abbrev pub target_of : List Fact → List Binding → List Binding → ℕ → Target
+unfoldable pub target_of : List Fact → List Binding → List Binding → ℕ → Target
 target_of facts locals members t =
     local_or (latest locals (name_at facts t)) (declared_or (latest members (name_at facts t)) (primitive_or_unknown (is_primitive_at facts t)))
 
@@ -78,44 +78,49 @@ is_unknown (target.Local d) = false
 is_unknown (target.Declared c) = false
 is_unknown target.Primitive = false
 
-abbrev pub is_free : List Fact → List Binding → List Binding → ℕ → Bool
+unfoldable pub is_free : List Fact → List Binding → List Binding → ℕ → Bool
 is_free facts locals members t = is_unknown (target_of facts locals members t)
 
 abbrev pub binding : List Fact → ℕ → ℕ → Binding
 binding facts t value = record { name = name_at facts t; value = value }
 
--- names are bound, one after another, where they are free
-abbrev pub bind : List Fact → List Binding → List Binding → List ℕ → List Binding
-bind facts members locals [] = locals
-bind facts members locals (t ∷ more) =
-    bind facts members (if is_free facts locals members t then locals ++ binding facts t t ∷ [] else locals) more
+-- a name is bound where it is free
+unfoldable pub bound_with : List Fact → List Binding → List Binding → ℕ → List Binding
+bound_with facts members locals t = if is_free facts locals members t then locals ++ binding facts t t ∷ [] else locals
 
--- and each is declared, or repeats a name
-abbrev pub declare : List Fact → Sort → List Binding → List Binding → List ℕ → List Event
+-- names are bound, one after another
+unfoldable pub bind : List Fact → List Binding → List Binding → List ℕ → List Binding
+bind facts members locals [] = locals
+bind facts members locals (t ∷ more) = bind facts members (bound_with facts members locals t) more
+
+-- a name that is free is declared; another one repeats a name
+unfoldable pub declaration : List Fact → Sort → List Binding → List Binding → ℕ → Event
+declaration facts s members locals t = if is_free facts locals members t then event.Declares t s else event.Repeats t
+
+-- names are declared, one after another
+unfoldable pub declare : List Fact → Sort → List Binding → List Binding → List ℕ → List Event
 declare facts s members locals [] = []
 declare facts s members locals (t ∷ more) =
-    if is_free facts locals members t
-    then event.Declares t s ∷ declare facts s members (locals ++ binding facts t t ∷ []) more
-    else event.Repeats t ∷ declare facts s members locals more
+    declaration facts s members locals t ∷ declare facts s members (bound_with facts members locals t) more
 
--- members repeat the name of an earlier member
-abbrev pub is_among : ℕ → List ℕ → Bool
-is_among n [] = false
-is_among n (m ∷ more) = nat_eq n m || is_among n more
+-- a member may not have the name of an earlier one
+abbrev pub is_bound : Option ℕ → Bool
+is_bound None = false
+is_bound (Some v) = true
 
-abbrev pub repeated : List Fact → List ℕ → List ℕ → List Event
+unfoldable pub repeated : List Fact → List Binding → List ℕ → List Event
 repeated facts earlier [] = []
 repeated facts earlier (t ∷ more) =
-    if is_among (name_at facts t) earlier then event.Repeats t ∷ repeated facts earlier more
-    else repeated facts (name_at facts t ∷ earlier) more
+    if is_bound (latest earlier (name_at facts t)) then event.Repeats t ∷ repeated facts earlier more
+    else repeated facts (earlier ++ binding facts t 0 ∷ []) more
 
 -- a container's declarations come into scope, each under the token that begins the members
-abbrev pub with_members : List Fact → ℕ → List Binding → List ℕ → List Binding
+unfoldable pub with_members : List Fact → ℕ → List Binding → List ℕ → List Binding
 with_members facts begin members [] = members
 with_members facts begin members (t ∷ more) = with_members facts begin (members ++ binding facts t begin ∷ []) more
 
 -- the token that begins the members of a container; a file's begin at the first token
-abbrev pub first_token : Syntax → ℕ
+unfoldable pub first_token : Syntax → ℕ
 first_token nothing = 0
 first_token (word t k more) = t
 first_token (node r inside more) = 0
@@ -139,7 +144,7 @@ left_by on label exit.Wall outer = false
 left_by on label (exit.Loop of) outer = loop_left label of outer
 left_by on label (exit.Block of) outer = block_left on label of outer
 
-abbrev pub is_left : Bool → Option ℕ → Bool → List Exit → Bool
+unfoldable pub is_left : Bool → Option ℕ → Bool → List Exit → Bool
 is_left on label outer [] = outer
 is_left on label outer (e ∷ more) = is_left on label (left_by on label e outer) more
 
@@ -149,7 +154,7 @@ label_by facts mark.Colon (Some t) = Some (name_at facts t)
 label_by facts mark.Colon None = None
 label_by facts _ later = None
 
-abbrev pub label_after : List Fact → Syntax → Option ℕ
+unfoldable pub label_after : List Fact → Syntax → Option ℕ
 label_after facts nothing = None
 label_after facts (word t k more) = label_by facts (mark_of k) (second_name (word t k more))
 label_after facts (node r inside more) = None
@@ -164,7 +169,7 @@ mentioned facts p t reading.Atom = event.Mentions t (target_of facts p.locals p.
 mentioned facts p t _ = []
 
 -- what is found at a token, which others follow
-abbrev pub word_events : List Fact → Place → ℕ → Mark → Syntax → List Event
+unfoldable pub word_events : List Fact → Place → ℕ → Mark → Syntax → List Event
 word_events facts p t mark.Identifier more = mentioned facts p t p.reading
 word_events facts p t mark.Try more = strays p.in_function t
 word_events facts p t mark.Return more = strays p.in_function t
@@ -211,21 +216,21 @@ past_word_by facts t m p (reading.Parameters must) = p
 past_word_by facts t m p reading.Deferred = p
 
 -- what holds after a token
-abbrev pub past_word : List Fact → Place → ℕ → Mark → Place
+unfoldable pub past_word : List Fact → Place → ℕ → Mark → Place
 past_word facts p t m = past_word_by facts t m p p.reading
 
 -- what the names of a node owe
-abbrev pub parameter_sort : Reading → Sort
+unfoldable pub parameter_sort : Reading → Sort
 parameter_sort (reading.Parameters true) = sort.Constant
 parameter_sort (reading.Parameters false) = sort.Given
 parameter_sort _ = sort.Given
 
-abbrev pub local_sort : Bool → Sort
+unfoldable pub local_sort : Bool → Sort
 local_sort true = sort.Variable
 local_sort false = sort.Constant
 
 -- the names that a node declares
-abbrev pub declared : List Fact → Place → Role → Syntax → List Event
+unfoldable pub declared : List Fact → Place → Role → Syntax → List Event
 declared facts p role.Parameter inside = declare facts (parameter_sort p.reading) p.members p.locals (binders role.Parameter inside)
 declared facts p role.Statement inside = declare facts (local_sort (is_var_local inside)) p.members p.locals (binders role.Statement inside)
 declared facts p role.Captures inside = declare facts sort.Constant p.members p.locals (binders role.Captures inside)
@@ -233,16 +238,16 @@ declared facts p role.Members inside = repeated facts [] (members_in inside)
 declared facts p role.Container inside = event.Opens (first_token inside) ∷ []
 declared facts p _ inside = []
 
-abbrev pub changed : List ℕ → List Event
+unfoldable pub changed : List ℕ → List Event
 changed [] = []
 changed (t ∷ more) = event.Changes t ∷ changed more
 
 -- what is found at a node
-abbrev pub node_events : List Fact → Place → Role → Syntax → List Event
+unfoldable pub node_events : List Fact → Place → Role → Syntax → List Event
 node_events facts p r inside = changed (changes facts r inside) ++ declared facts p r inside
 
 -- and behind it
-abbrev pub end_events : Role → List Event
+unfoldable pub end_events : Role → List Event
 end_events role.Container = event.Closes ∷ []
 end_events _ = []
 
@@ -276,7 +281,7 @@ abbrev pub enter_labelled : Role → Place → Place
 enter_labelled role.Block p = with_exit p.next_exit p
 enter_labelled _ p = p
 
-abbrev pub entered : List Fact → Role → Place → Reading → Place
+unfoldable pub entered : List Fact → Role → Place → Reading → Place
 entered facts r p reading.Plain = p
 entered facts r p reading.Atom = p
 entered facts r p reading.Labelled = enter_labelled r p
@@ -311,7 +316,7 @@ parts_of reading.Bound p = p
 parts_of _ p = read_as reading.Plain p
 
 -- how the row of a node is read from its start, where this much is in scope
-abbrev pub begun : List Fact → Role → Syntax → Place → Place
+unfoldable pub begun : List Fact → Role → Syntax → Place → Place
 begun facts role.Members inside p = read_as reading.Plain (walled false (record p { members = with_members facts (first_token inside) p.members (declarations_in inside) }))
 begun facts role.If inside p = read_as reading.Head p
 begun facts role.While inside p = looping p
@@ -324,7 +329,7 @@ begun facts role.Atom inside p = read_as reading.Atom p
 begun facts _ inside p = read_as reading.Plain p
 
 -- what holds at the first part within a node
-abbrev pub within : List Fact → Place → Role → Syntax → Place
+unfoldable pub within : List Fact → Place → Role → Syntax → Place
 within facts p r inside = begun facts r inside (entered facts r p p.reading)
 
 -- a part that has taken what was bound ends it
@@ -333,7 +338,7 @@ after_part reading.Bound p = read_as reading.Plain p
 after_part _ p = p
 
 -- what holds after a node
-abbrev pub past_node : List Fact → Place → Role → Syntax → Place
+unfoldable pub past_node : List Fact → Place → Role → Syntax → Place
 past_node facts p role.Statement inside = record p { locals = bind facts p.members p.locals (binders role.Statement inside) }
 past_node facts p role.Parameter inside = record p { locals = bind facts p.members p.locals (binders role.Parameter inside) }
 past_node facts p role.Captures inside = record p { bound = binders role.Captures inside }
@@ -341,7 +346,7 @@ past_node facts p role.Prototype inside = record p { bound = binders role.Protot
 past_node facts p _ inside = after_part p.reading p
 
 -- what is found in a row, from a place on
-abbrev pub walk : List Fact → Place → Syntax → List Event
+unfoldable pub walk : List Fact → Place → Syntax → List Event
 walk facts p nothing = []
 walk facts p (word t k more) = word_events facts p t (mark_of k) more ++ walk facts (past_word facts p t (mark_of k)) more
 walk facts p (node r inside more) =

@@ -1,5 +1,5 @@
 // The names in scope, with what each stands for.
-ghost use Rattle.std.specs.Prelude.{◌≡◌, ◌<◌, ◌-◌, [], ◌∷◌, ◌++◌, length, take, IfOk, OnOk, OnErr};
+ghost use Rattle.std.specs.Prelude.{◌≡◌, ◌<◌, ◌+◌, ◌-◌, [], ◌∷◌, ◌++◌, length, take, IfOk, OnOk, OnErr};
 ghost use Rattle.zir_scope.specs.Bindings.{latest};
 
 use std::alloc::{AllocError, Global};
@@ -41,7 +41,7 @@ impl Model for Bindings {
 }
 
 impl Bindings {
-    /// No bindings yet. `names` is one more than the greatest name that will be bound.
+    /// No bindings yet, with room for names below `names`; it grows where a greater one is bound.
     pub fn new(alloc: Global, names: usize) -> Result<Bindings, AllocError>
         ensures { IfOk result (λ b. b ≡ record { names = names; entries = [] }) }
     {
@@ -71,8 +71,35 @@ impl Bindings {
         }
     }
 
-    /// Binds a name, whatever it is bound to before. An `Err` changes nothing.
+    /// Room for one more name.
+    fn widen(&mut self) -> Result<(), AllocError>
+        ensures { OnOk result (self.new ≡ record self.old { names = self.old.names + 1 }) }
+    {
+        self.newest.push(None)?;
+        Ok(())
+    }
+
+    /// Room for this name.
+    fn reach(&mut self, name: u32) -> Result<(), AllocError>
+        ensures reached { OnOk result (name < self.new.names) }
+        ensures same { OnOk result (self.new.entries ≡ self.old.entries) }
+    {
+        while self.newest.len() <= name as usize {
+            self.widen()?;
+        }
+        Ok(())
+    }
+
+    /// Binds a name, whatever it is bound to before.
     pub fn push(&mut self, name: u32, value: u32) -> Result<(), AllocError>
+        ensures { OnOk result (self.new.entries ≡ self.old.entries ++ record { name = name; value = value } ∷ []) }
+    {
+        self.reach(name)?;
+        self.put(name, value)
+    }
+
+    /// Binds a name for which there is room. An `Err` changes nothing.
+    fn put(&mut self, name: u32, value: u32) -> Result<(), AllocError>
         requires { name < self.old.names }
         ensures ok { OnOk result (self.new ≡ record self.old { entries = self.old.entries ++ record { name = name; value = value } ∷ [] }) }
         ensures err { OnErr result (self.new ≡ self.old) }

@@ -6,14 +6,17 @@ mod binders;
 mod changes;
 mod event;
 mod facts;
+mod names;
 mod outline;
 mod place;
 mod roles;
 mod rows;
+mod scope;
 
 pub use bindings::{Binding, Bindings};
 pub use event::{Event, Sort, Target};
 pub use facts::Fact;
 pub use outline::Outline;
-pub use place::{Exit, Reading};
+pub use place::{Context, Exit, Reading};
+pub use scope::Scope;
 pub use roles::{Mark, Role, mark_of, role_of};

@@ -32,3 +32,13 @@ pub enum Exit {
     /// A block with its label.
     Block(u32),
 }
+
+/// How the next parts of a row are read: whether they lie in a function, the node whose names are bound
+/// for what is to come, and what the next loop or block is to leave.
+#[derive(Clone, Copy, Debug)]
+pub struct Context {
+    pub reading: Reading,
+    pub in_function: bool,
+    pub bound: Option<u32>,
+    pub next_exit: Option<Exit>,
+}

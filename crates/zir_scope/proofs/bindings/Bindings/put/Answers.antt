@@ -5,7 +5,7 @@ use Rattle.zir_scope.specs.declared.bindings.Row.{Row}
 use Rattle.zir_scope.specs.Bindings.{BindingsState}
 use Rattle.zir_scope.specs.Rows.{bindings_of, Agrees}
 use Rattle.zir_scope.proofs.BindingLemmas.{Agrees-push, bindings_of-push, state}
-use Rattle.zir_scope.proofs.bindings.Bindings.push.Goals as goal
+use Rattle.zir_scope.proofs.bindings.Bindings.put.Goals as goal
 
 pub invariant_of-self-2 : goal.invariant_of-self-2
 invariant_of-self-2 c =
