@@ -1,5 +1,5 @@
 -- What scoping has in hand: what is in scope, and what was found so far.
-use Rattle.std.specs.Prelude.{ℕ, Bool, List, [], Option, Some, None}
+use Rattle.std.specs.Prelude.{◌≡◌, ℕ, Bool, List, [], ◌++◌, Option, Some, None}
 use Rattle.zir_scope.specs.declared.bindings.Binding.{Binding}
 use Rattle.zir_scope.specs.declared.place.Exit.{Exit}
 use Rattle.zir_scope.specs.declared.place.Context.{Context}
@@ -35,3 +35,8 @@ place o s c = record {
   bound = bound_of o c.bound;
   next_exit = c.next_exit;
 }
+
+-- a list begins with another
+pub record Extends {T : Type 0} (xs ys : List T) : Type 0 where
+  pub more : List T
+  pub is : ys ≡ xs ++ more

@@ -4,6 +4,7 @@
 mod bindings;
 mod binders;
 mod changes;
+mod declare;
 mod event;
 mod facts;
 mod names;

@@ -77,7 +77,7 @@ impl Scope {
 
     /// A name comes into scope, where it is free.
     #[tactic(auto, unfolding(crate::specs::Scoping::bound_with))]
-    fn bind(&mut self, outline: &Outline<'_>, token: u32) -> Result<(), AllocError>
+    pub fn bind(&mut self, outline: &Outline<'_>, token: u32) -> Result<(), AllocError>
         ensures { OnOk result (seen self.new ≡ record (seen self.old) { locals = spec.bound_with outline.now.facts.now (seen self.old).members (seen self.old).locals token }) }
     {
         if self.is_free(outline, token) {
@@ -123,7 +123,7 @@ impl Scope {
 
     /// What a name is found to be that is declared here.
     #[tactic(auto, unfolding(crate::specs::Scoping::declaration))]
-    fn declaration(&self, outline: &Outline<'_>, token: u32, sort: Sort) -> Event
+    pub fn declaration(&self, outline: &Outline<'_>, token: u32, sort: Sort) -> Event
         ensures { result ≡ spec.declaration outline.now.facts.now sort self.now.members.entries self.now.locals.entries token }
     {
         if self.is_free(outline, token) {
