@@ -13,6 +13,7 @@ mod place;
 mod roles;
 mod rows;
 mod scope;
+mod words;
 
 pub use bindings::{Binding, Bindings};
 pub use event::{Event, Sort, Target};
