@@ -1,5 +1,5 @@
 -- What scoping has in hand: what is in scope, and what was found so far.
-use Rattle.std.specs.Prelude.{◌≡◌, ℕ, Bool, List, [], ◌++◌, Option, Some, None}
+use Rattle.std.specs.Prelude.{◌≡◌, ℕ, Bool, List, [], ◌∷◌, ◌++◌, Option, Some, None}
 use Rattle.zir_scope.specs.declared.bindings.Binding.{Binding}
 use Rattle.zir_scope.specs.declared.place.Exit.{Exit}
 use Rattle.zir_scope.specs.declared.place.Context.{Context}
@@ -40,3 +40,8 @@ place o s c = record {
 pub record Extends {T : Type 0} (xs ys : List T) : Type 0 where
   pub more : List T
   pub is : ys ≡ xs ++ more
+
+-- what may be left, with one more where there is one
+abbrev pub exits_with : Option Exit → List Exit → List Exit
+exits_with None exits = exits
+exits_with (Some e) exits = exits ++ e ∷ []

@@ -5,6 +5,7 @@ mod bindings;
 mod binders;
 mod changes;
 mod declare;
+mod enter;
 mod event;
 mod facts;
 mod names;
