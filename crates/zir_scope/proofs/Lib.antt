@@ -1,3 +1,4 @@
 pub mod BindingLemmas
 pub mod Trees
 pub mod Prefixes
+pub mod Cases

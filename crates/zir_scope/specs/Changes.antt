@@ -196,6 +196,11 @@ changes_base role.Bit inside = catches inside
 changes_base _ inside = false
 
 -- the names at the base of what a node may change
+abbrev pub is_for : Role → Bool
+is_for role.For = true
+is_for _ = false
+
 unfoldable pub changes : List Fact → Role → Syntax → List ℕ
-changes facts role.For inside = argument_bases facts (bar_flags inside) inside
-changes facts r inside = joined (provided (changes_base r inside) (base facts inside)) []
+changes facts r inside =
+    if is_for r then argument_bases facts (bar_flags inside) inside
+    else joined (provided (changes_base r inside) (base facts inside)) []

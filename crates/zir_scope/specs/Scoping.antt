@@ -315,18 +315,26 @@ abbrev pub parts_of : Reading → Place → Place
 parts_of reading.Bound p = p
 parts_of _ p = read_as reading.Plain p
 
+-- the members of a container come into scope
+abbrev pub begun_members : List Fact → Syntax → Place → Place
+begun_members facts inside p = read_as reading.Plain (walled false (record p { members = with_members facts (first_token inside) p.members (declarations_in inside) }))
+
+-- how the row of another node is read from its start
+abbrev pub begun_by : Role → Place → Place
+begun_by role.If p = read_as reading.Head p
+begun_by role.While p = looping p
+begun_by role.For p = looping p
+begun_by role.Parts p = parts_of p.reading p
+begun_by role.Function p = read_as reading.Function p
+begun_by role.Prototype p = read_as (reading.Parameters (is_function p.reading)) p
+begun_by role.Labelled p = read_as reading.Labelled p
+begun_by role.Atom p = read_as reading.Atom p
+begun_by _ p = read_as reading.Plain p
+
 -- how the row of a node is read from its start, where this much is in scope
 unfoldable pub begun : List Fact → Role → Syntax → Place → Place
-begun facts role.Members inside p = read_as reading.Plain (walled false (record p { members = with_members facts (first_token inside) p.members (declarations_in inside) }))
-begun facts role.If inside p = read_as reading.Head p
-begun facts role.While inside p = looping p
-begun facts role.For inside p = looping p
-begun facts role.Parts inside p = parts_of p.reading p
-begun facts role.Function inside p = read_as reading.Function p
-begun facts role.Prototype inside p = read_as (reading.Parameters (is_function p.reading)) p
-begun facts role.Labelled inside p = read_as reading.Labelled p
-begun facts role.Atom inside p = read_as reading.Atom p
-begun facts _ inside p = read_as reading.Plain p
+begun facts role.Members inside p = begun_members facts inside p
+begun facts r inside p = begun_by r p
 
 -- what holds at the first part within a node
 unfoldable pub within : List Fact → Place → Role → Syntax → Place

@@ -1,8 +1,9 @@
 // What holds within a node, and behind it.
-ghost use Rattle.std.specs.Prelude.{◌≡◌, ◌++◌, ◌∷◌, [], OnOk, IfOk, None};
+ghost use Rattle.std.specs.Prelude.{◌≡◌, ◌++◌, ◌∷◌, [], OnOk, IfOk, None, Some};
+ghost use Rattle.zir_scope.specs.declared.outline.Outline.{Outline};
 ghost use Rattle.zir_scope.specs.Roles.{role_of};
 ghost use Rattle.zir_scope.specs.Scoping as spec;
-ghost use Rattle.zir_scope.specs.State.{bound_of, exits_with, place, seen, Extends};
+ghost use Rattle.zir_scope.specs.State.{bound_of, exits_with, place, seen, Extends, Seen};
 ghost use Rattle.zir_scope.specs.Syntax.{inside_of, row_in, rule_at};
 
 use crate::outline::Outline;
@@ -118,5 +119,175 @@ impl Scope {
             _ => {}
         }
         Ok(context)
+    }
+
+    /// The members of a container, which nothing around them can be left from.
+    #[tactic(auto, using(crate::proofs::Prefixes::prefix_steps))]
+    fn begin_members(
+        &mut self,
+        outline: &Outline<'_>,
+        context: Context,
+        row: &[Kid],
+    ) -> Result<Context, AllocError>
+        ensures place { IfOk result (λ c. place outline.now (seen self.new) c ≡ spec.begun_members outline.now.facts.now (row_in outline.now row.now) (place outline.now (seen self.old) context)) }
+        ensures events { OnOk result ((seen self.new).events ≡ (seen self.old).events) }
+        ensures locals { OnOk result ((seen self.new).locals ≡ (seen self.old).locals) }
+        ensures members { OnOk result (Extends (seen self.old).members (seen self.new).members) }
+        ensures exits { OnOk result (Extends (seen self.old).exits (seen self.new).exits) }
+    {
+        self.bind_members(outline, outline.first_token(row), row)?;
+        self.leave_by(Exit::Wall)?;
+        Ok(Context {
+            reading: Reading::Plain,
+            in_function: false,
+            bound: None,
+            next_exit: None,
+        })
+    }
+
+    /// How the row of a node is read from its start.
+    #[tactic(auto, using(crate::proofs::Prefixes::prefix_steps), unfolding(crate::specs::Scoping::begun))]
+    fn begun(
+        &mut self,
+        outline: &Outline<'_>,
+        context: Context,
+        node: u32,
+    ) -> Result<Context, AllocError>
+        ensures place { IfOk result (λ c. place outline.now (seen self.new) c ≡ spec.begun outline.now.facts.now (role_of (rule_at outline.now.nodes.now node)) (inside_of outline.now node) (place outline.now (seen self.old) context)) }
+        ensures events { OnOk result ((seen self.new).events ≡ (seen self.old).events) }
+        ensures locals { OnOk result ((seen self.new).locals ≡ (seen self.old).locals) }
+        ensures members { OnOk result (Extends (seen self.old).members (seen self.new).members) }
+        ensures exits { OnOk result (Extends (seen self.old).exits (seen self.new).exits) }
+    {
+        match outline.role(node) {
+            Role::Members => self.begin_members(outline, context, outline.kids(node)),
+            role => Ok(context.begun(role)),
+        }
+    }
+
+    /// What holds at the first part within a node.
+    #[tactic(auto, using(crate::proofs::Prefixes::prefix_steps), unfolding(crate::specs::Scoping::within))]
+    pub fn enter(
+        &mut self,
+        outline: &Outline<'_>,
+        context: Context,
+        node: u32,
+    ) -> Result<Context, AllocError>
+        ensures place { IfOk result (λ c. place outline.now (seen self.new) c ≡ spec.within outline.now.facts.now (place outline.now (seen self.old) context) (role_of (rule_at outline.now.nodes.now node)) (inside_of outline.now node)) }
+        ensures events { OnOk result ((seen self.new).events ≡ (seen self.old).events) }
+        ensures locals { OnOk result (Extends (seen self.old).locals (seen self.new).locals) }
+        ensures members { OnOk result (Extends (seen self.old).members (seen self.new).members) }
+        ensures exits { OnOk result (Extends (seen self.old).exits (seen self.new).exits) }
+    {
+        let entered = self.entered(outline, context, outline.role(node))?;
+        self.begun(outline, entered, node)
+    }
+
+    /// What holds behind a node.
+    #[tactic(auto, using(crate::proofs::Prefixes::prefix_steps), unfolding(crate::specs::Scoping::past_node))]
+    pub fn past_node(
+        &mut self,
+        outline: &Outline<'_>,
+        context: Context,
+        node: u32,
+    ) -> Result<Context, AllocError>
+        ensures place { IfOk result (λ c. place outline.now (seen self.new) c ≡ spec.past_node outline.now.facts.now (place outline.now (seen self.old) context) (role_of (rule_at outline.now.nodes.now node)) (inside_of outline.now node)) }
+        ensures events { OnOk result ((seen self.new).events ≡ (seen self.old).events) }
+        ensures members { OnOk result ((seen self.new).members ≡ (seen self.old).members) }
+        ensures exits { OnOk result ((seen self.new).exits ≡ (seen self.old).exits) }
+        ensures locals { OnOk result (Extends (seen self.old).locals (seen self.new).locals) }
+    {
+        let row = outline.kids(node);
+        match outline.role(node) {
+            Role::Statement => self.bind_one(outline, outline.local_name(row))?,
+            Role::Parameter => self.bind_one(outline, outline.front_name(row))?,
+            Role::Captures | Role::Prototype => return Ok(context.binding(node)),
+            _ => return Ok(context.after_part()),
+        }
+        Ok(context)
+    }
+}
+
+/// The label of a block, which a loop behind it keeps.
+fn label_of(exit: Option<Exit>) -> Option<u32>
+    ensures { result ≡ spec.label_of exit }
+{
+    match exit {
+        Some(Exit::Block(label)) => Some(label),
+        _ => None,
+    }
+}
+
+impl Context {
+    /// The label before a loop, where there is one.
+    fn loop_label(&self) -> Option<u32>
+        ensures { result ≡ spec.loop_label self.now.reading self.now.next_exit }
+    {
+        match self.reading {
+            Reading::Labelled => label_of(self.next_exit),
+            _ => None,
+        }
+    }
+
+    /// How the row of a loop is read from its start.
+    fn looping(&self) -> Context
+        ensures { result ≡ record self.now { reading = Reading.Head; bound = None; next_exit = Some (Exit.Loop (spec.loop_label self.now.reading self.now.next_exit)) } }
+    {
+        Context {
+            reading: Reading::Head,
+            in_function: self.in_function,
+            bound: None,
+            next_exit: Some(Exit::Loop(self.loop_label())),
+        }
+    }
+
+    /// The parts of an `if` or a loop take what is bound for them.
+    fn parts(&self) -> Context
+        ensures { (o : Outline) (s : Seen) → place o s result ≡ spec.parts_of self.now.reading (place o s self.now) }
+    {
+        match self.reading {
+            Reading::Bound => *self,
+            _ => self.read_as(Reading::Plain),
+        }
+    }
+
+    /// How the row of a node that is no container's members is read from its start.
+    fn begun(&self, role: Role) -> Context
+        ensures { (o : Outline) (s : Seen) → place o s result ≡ spec.begun_by role (place o s self.now) }
+    {
+        match role {
+            Role::If => self.read_as(Reading::Head),
+            Role::While | Role::For => self.looping(),
+            Role::Parts => self.parts(),
+            Role::Function => self.read_as(Reading::Function),
+            Role::Prototype => self.read_as(Reading::Parameters {
+                must: matches!(self.reading, Reading::Function),
+            }),
+            Role::Labelled => self.read_as(Reading::Labelled),
+            Role::Atom => self.read_as(Reading::Atom),
+            _ => self.read_as(Reading::Plain),
+        }
+    }
+
+    /// The names of a node are bound for what is to come.
+    fn binding(&self, node: u32) -> Context
+        ensures { result ≡ record self.now { bound = Some node } }
+    {
+        Context {
+            reading: self.reading,
+            in_function: self.in_function,
+            bound: Some(node),
+            next_exit: self.next_exit,
+        }
+    }
+
+    /// A part that has taken what was bound ends it.
+    fn after_part(&self) -> Context
+        ensures { (o : Outline) (s : Seen) → place o s result ≡ spec.after_part self.now.reading (place o s self.now) }
+    {
+        match self.reading {
+            Reading::Bound => self.read_as(Reading::Plain),
+            _ => *self,
+        }
     }
 }

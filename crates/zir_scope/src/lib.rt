@@ -14,6 +14,7 @@ mod place;
 mod roles;
 mod rows;
 mod scope;
+mod walk;
 mod words;
 
 pub use bindings::{Binding, Bindings};

@@ -1,0 +1,198 @@
+// The walk over a file's tree.
+ghost use Rattle.std.specs.Prelude.{◌≡◌, ◌++◌, ◌∷◌, [], true, OnOk};
+ghost use Rattle.zig_tree.specs.Nodes.{are_earlier};
+ghost use Rattle.zir_scope.specs.Roles.{role_of};
+ghost use Rattle.zir_scope.specs.Binders.{joined};
+ghost use Rattle.zir_scope.specs.Changes.{argument_bases, base, changes, first_flag, is_for, other_flags, provided};
+ghost use Rattle.zir_scope.specs.Scoping as spec;
+ghost use Rattle.zir_scope.specs.State.{place, seen, Extends};
+ghost use Rattle.zir_scope.specs.Syntax.{inside_of, row_in, rule_at};
+
+use crate::event::{Event, Sort};
+use crate::outline::Outline;
+use crate::place::{Context, Reading};
+use crate::roles::Role;
+use crate::scope::Scope;
+use std::alloc::{AllocError, Global};
+use zig_tree::Kid;
+
+/// What the names of parameters owe.
+#[tactic(auto, unfolding(crate::specs::Scoping::parameter_sort))]
+fn parameter_sort(reading: Reading) -> Sort
+    ensures { result ≡ spec.parameter_sort reading }
+{
+    match reading {
+        Reading::Parameters { must: true } => Sort::Constant,
+        _ => Sort::Given,
+    }
+}
+
+/// What the name of a local owes.
+#[tactic(auto, unfolding(crate::specs::Scoping::local_sort))]
+fn local_sort(is_var: bool) -> Sort
+    ensures { result ≡ spec.local_sort is_var }
+{
+    if is_var { Sort::Variable } else { Sort::Constant }
+}
+
+impl Scope {
+    /// The name at the base of an operand may be changed, where there is one.
+    #[tactic(auto, unfolding(crate::specs::Scoping::changed))]
+    fn change(&mut self, base: Option<u32>) -> Result<(), AllocError>
+        ensures { OnOk result (seen self.new ≡ record (seen self.old) { events = (seen self.old).events ++ spec.changed (joined base []) }) }
+    {
+        match base {
+            Some(token) => self.emit(Event::Changes { token }),
+            None => Ok(()),
+        }
+    }
+
+    /// The names at the base of what a node may change.
+    #[tactic(auto, unfolding(crate::specs::Changes::changes, crate::specs::Scoping::changed))]
+    fn changes(
+        &mut self,
+        alloc: Global,
+        outline: &Outline<'_>,
+        node: u32,
+    ) -> Result<(), AllocError>
+        ensures { OnOk result (seen self.new ≡ record (seen self.old) { events = (seen self.old).events ++ spec.changed (changes outline.now.facts.now (role_of (rule_at outline.now.nodes.now node)) (inside_of outline.now node)) }) }
+    {
+        let row = outline.kids(node);
+        if is_for(outline.role(node)) {
+            let flags = outline.bar_flags(alloc, row)?;
+            return self.change_arguments(outline, flags.as_slice(), row, node);
+        }
+        if outline.changes_base(node) {
+            self.change(outline.base(row, node))
+        } else {
+            Ok(())
+        }
+    }
+
+    /// The names at the base of those operands of a `for` that are captured by pointer.
+    #[tactic(auto, using(crate::proofs::Trees::earlier_steps), unfolding(crate::specs::Scoping::changed, crate::specs::Changes::argument_bases, crate::specs::Syntax::row_in, crate::specs::Syntax::inside_of))]
+    fn change_arguments(
+        &mut self,
+        outline: &Outline<'_>,
+        flags: &[bool],
+        row: &[Kid],
+        before: u32,
+    ) -> Result<(), AllocError>
+        requires { are_earlier before row.now ≡ true }
+        ensures { OnOk result (seen self.new ≡ record (seen self.old) { events = (seen self.old).events ++ spec.changed (argument_bases outline.now.facts.now flags.now (row_in outline.now row.now)) }) }
+    {
+        let mut rest = row;
+        let mut left = flags;
+        while let [kid, more @ ..] = rest {
+            match *kid {
+                Kid::Token(_) => {}
+                Kid::Node(node) => {
+                    if let Role::ForArgument = outline.role(node) {
+                        self.change_argument(outline, left, node)?;
+                        left = others(left);
+                    }
+                }
+            }
+            rest = more;
+        }
+        Ok(())
+    }
+
+    /// The name at the base of an operand of a `for`, where it is captured by pointer.
+    #[tactic(auto, unfolding(crate::specs::Scoping::changed))]
+    fn change_argument(
+        &mut self,
+        outline: &Outline<'_>,
+        flags: &[bool],
+        node: u32,
+    ) -> Result<(), AllocError>
+        ensures { OnOk result (seen self.new ≡ record (seen self.old) { events = (seen self.old).events ++ spec.changed (joined (provided (first_flag flags.now) (base outline.now.facts.now (inside_of outline.now node))) []) }) }
+    {
+        if first(flags) {
+            self.change(outline.base(outline.kids(node), node))
+        } else {
+            Ok(())
+        }
+    }
+
+    /// What a node declares.
+    #[tactic(auto, unfolding(crate::specs::Scoping::declared))]
+    fn declared(
+        &mut self,
+        outline: &Outline<'_>,
+        context: Context,
+        node: u32,
+    ) -> Result<(), AllocError>
+        ensures { OnOk result (seen self.new ≡ record (seen self.old) { events = (seen self.old).events ++ spec.declared outline.now.facts.now (place outline.now (seen self.old) context) (role_of (rule_at outline.now.nodes.now node)) (inside_of outline.now node) }) }
+    {
+        let row = outline.kids(node);
+        match outline.role(node) {
+            Role::Parameter => {
+                self.declare_one(outline, outline.front_name(row), parameter_sort(context.reading))
+            }
+            Role::Statement => {
+                let sort = local_sort(outline.is_var_local(row));
+                self.declare_one(outline, outline.local_name(row), sort)
+            }
+            Role::Captures => self.declare_row(outline, row),
+            Role::Members => self.repeat_members(outline, row),
+            Role::Container => self.emit(Event::Opens {
+                token: outline.first_token(row),
+            }),
+            _ => Ok(()),
+        }
+    }
+
+    /// What is found at a node.
+    #[tactic(auto, unfolding(crate::specs::Scoping::node_events))]
+    fn before(
+        &mut self,
+        alloc: Global,
+        outline: &Outline<'_>,
+        context: Context,
+        node: u32,
+    ) -> Result<(), AllocError>
+        ensures { OnOk result (seen self.new ≡ record (seen self.old) { events = (seen self.old).events ++ spec.node_events outline.now.facts.now (place outline.now (seen self.old) context) (role_of (rule_at outline.now.nodes.now node)) (inside_of outline.now node) }) }
+    {
+        self.changes(alloc, outline, node)?;
+        self.declared(outline, context, node)
+    }
+
+    /// What is found behind a node.
+    #[tactic(auto, unfolding(crate::specs::Scoping::end_events))]
+    fn behind(&mut self, outline: &Outline<'_>, node: u32) -> Result<(), AllocError>
+        ensures { OnOk result (seen self.new ≡ record (seen self.old) { events = (seen self.old).events ++ spec.end_events (role_of (rule_at outline.now.nodes.now node)) }) }
+    {
+        match outline.role(node) {
+            Role::Container => self.emit(Event::Closes),
+            _ => Ok(()),
+        }
+    }
+}
+
+/// Whether a node is a `for`.
+fn is_for(role: Role) -> bool
+    ensures { result ≡ is_for role }
+{
+    matches!(role, Role::For)
+}
+
+/// The first flag; of none it is unset.
+fn first(flags: &[bool]) -> bool
+    ensures { result ≡ first_flag flags.now }
+{
+    match flags {
+        [flag, ..] => *flag,
+        [] => false,
+    }
+}
+
+/// The flags behind the first one.
+fn others(flags: &[bool]) -> &[bool]
+    ensures { result.now ≡ other_flags flags.now }
+{
+    match flags {
+        [_, more @ ..] => more,
+        [] => flags,
+    }
+}
