@@ -358,8 +358,12 @@ unfoldable pub walk : List Fact → Place → Syntax → List Event
 walk facts p nothing = []
 walk facts p (word t k more) = word_events facts p t (mark_of k) more ++ walk facts (past_word facts p t (mark_of k)) more
 walk facts p (node r inside more) =
-    node_events facts p (role_of r) inside ++ (walk facts (within facts p (role_of r) inside) inside
-      ++ (end_events (role_of r) ++ walk facts (past_node facts p (role_of r) inside) more))
+    node_events facts p (role_of r) inside ++ walk facts (within facts p (role_of r) inside) inside ++ end_events (role_of r)
+      ++ walk facts (past_node facts p (role_of r) inside) more
+
+-- what is found in a node and behind it
+unfoldable pub visited : List Fact → Place → Role → Syntax → List Event
+visited facts p r inside = node_events facts p r inside ++ walk facts (within facts p r inside) inside ++ end_events r
 
 -- before a file's first token nothing is in scope
 abbrev pub outside : Place

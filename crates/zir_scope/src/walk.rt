@@ -1,5 +1,5 @@
 // The walk over a file's tree.
-ghost use Rattle.std.specs.Prelude.{◌≡◌, ◌++◌, ◌∷◌, [], true, OnOk};
+ghost use Rattle.std.specs.Prelude.{◌≡◌, ◌++◌, ◌∷◌, [], length, take, true, OnOk};
 ghost use Rattle.zig_tree.specs.Nodes.{are_earlier};
 ghost use Rattle.zir_scope.specs.Roles.{role_of};
 ghost use Rattle.zir_scope.specs.Binders.{joined};
@@ -167,6 +167,91 @@ impl Scope {
             Role::Container => self.emit(Event::Closes),
             _ => Ok(()),
         }
+    }
+}
+
+/// How much was in scope.
+#[derive(Clone, Copy, Debug)]
+struct Marks {
+    locals: usize,
+    members: usize,
+    exits: usize,
+}
+
+impl Scope {
+    /// How much is in scope.
+    fn marks(&self) -> Marks
+        ensures { result ≡ record { locals = length (seen self.now).locals; members = length (seen self.now).members; exits = length (seen self.now).exits } }
+    {
+        Marks {
+            locals: self.locals.len(),
+            members: self.members.len(),
+            exits: self.exits.len(),
+        }
+    }
+
+    /// What came into scope since goes out of it.
+    fn cut(&mut self, marks: Marks)
+        ensures { seen self.new ≡ record (seen self.old) { locals = take marks.locals (seen self.old).locals; members = take marks.members (seen self.old).members; exits = take marks.exits (seen self.old).exits } }
+    {
+        self.locals.truncate(marks.locals);
+        self.members.truncate(marks.members);
+        self.exits.truncate(marks.exits);
+    }
+
+    /// A node, and all that it holds.
+    #[cycle(walk)]
+    fn visit(
+        &mut self,
+        alloc: Global,
+        outline: &Outline<'_>,
+        context: Context,
+        node: u32,
+    ) -> Result<(), AllocError>
+        ensures { OnOk result (seen self.new ≡ record (seen self.old) { events = (seen self.old).events ++ spec.visited outline.now.facts.now (place outline.now (seen self.old) context) (role_of (rule_at outline.now.nodes.now node)) (inside_of outline.now node) }) }
+    {
+        let marks = self.marks();
+        self.before(alloc, outline, context, node)?;
+        let inner = self.enter(outline, context, node)?;
+        self.walk(alloc, outline, inner, outline.kids(node), node)?;
+        self.cut(marks);
+        self.behind(outline, node)?;
+        Ok(())
+    }
+
+    /// A row, from a place on. What comes into scope in it stays.
+    #[cycle(walk)]
+    #[tactic(auto, using(crate::proofs::Walks::walk_steps, crate::proofs::Trees::earlier_steps, crate::proofs::Prefixes::prefix_steps), unfolding(crate::specs::Syntax::row_in, crate::specs::Syntax::inside_of))]
+    pub fn walk(
+        &mut self,
+        alloc: Global,
+        outline: &Outline<'_>,
+        context: Context,
+        row: &[Kid],
+        before: u32,
+    ) -> Result<(), AllocError>
+        requires { are_earlier before row.now ≡ true }
+        ensures events { OnOk result ((seen self.new).events ≡ (seen self.old).events ++ spec.walk outline.now.facts.now (place outline.now (seen self.old) context) (row_in outline.now row.now)) }
+        ensures members { OnOk result ((seen self.new).members ≡ (seen self.old).members) }
+        ensures exits { OnOk result ((seen self.new).exits ≡ (seen self.old).exits) }
+        ensures locals { OnOk result (Extends (seen self.old).locals (seen self.new).locals) }
+    {
+        let mut rest = row;
+        let mut now = context;
+        while let [kid, more @ ..] = rest {
+            match *kid {
+                Kid::Token(token) => {
+                    self.word(outline, now, token, more)?;
+                    now = now.past_word(outline, token);
+                }
+                Kid::Node(node) => {
+                    self.visit(alloc, outline, now, node)?;
+                    now = self.past_node(outline, now, node)?;
+                }
+            }
+            rest = more;
+        }
+        Ok(())
     }
 }
 
