@@ -1,5 +1,5 @@
 -- One step of the walk over a tree.
-use Rattle.std.proofs.Common.{◌≡◌, ℕ, List, [], ◌∷◌, ◌++◌, length, take, refl, sym, arith, ◌<◌, ◌∙◌, ap, append_assoc}
+use Rattle.std.proofs.Common.{◌≡◌, ℕ, List, [], ◌∷◌, ◌++◌, length, take, refl, subst, sym, arith, ◌<◌, ◌∙◌, ap, append_assoc}
 use Rattle.std.proofs.lemmas.List.{append-nil}
 use Rattle.zig_tree.specs.declared.token.TokenKind.{TokenKind}
 use Rattle.zig_tree.specs.declared.grammar.Rule.{Rule}
@@ -13,7 +13,7 @@ use Rattle.zir_scope.specs.declared.place.Exit.{Exit}
 use Rattle.zir_scope.specs.declared.roles.Role.{Role}
 use Rattle.zir_scope.specs.Roles.{role_of, mark_of}
 use Rattle.zir_scope.specs.Syntax.{Syntax, nothing, word, node, inside_of, row_in, rule_at}
-use Rattle.zir_scope.specs.Scoping.{Place, word_events, past_word, past_node, node_events, end_events, within, walk, visited}
+use Rattle.zir_scope.specs.Scoping.{Place, word_events, past_word, past_node, changes_within, declared, end_events, within, walk, visited}
 use Rattle.zir_scope.specs.State.{Seen, place, Extends}
 use Rattle.zir_scope.proofs.Prefixes.{extends_all, extends_cut}
 
@@ -41,42 +41,55 @@ pub walk_node : (facts : List Fact) (p q : Place) (found now : List Event) (r : 
     → now ++ walk facts q more ≡ found ++ walk facts p (node r inside more)
 unfolding walk visited
 walk_node facts p q found now r inside more e a =
-    let here : List Event = node_events facts p (role_of r) inside ++ walk facts (within facts p (role_of r) inside) inside ++ end_events (role_of r) in
+    let here : List Event =
+        declared facts p (role_of r) inside ++ changes_within facts (within facts p (role_of r) inside) (role_of r) inside
+          ++ walk facts (within facts p (role_of r) inside) inside ++ end_events (role_of r) in
     ap (λ l. l ++ walk facts q more) e ∙ append_assoc found here (walk facts q more)
     ∙ ap (λ (x : Place). found ++ (here ++ walk facts x more)) a
 
--- a node is visited: what stands before it, what it holds, and what stands behind it
-pub visit_step : (facts : List Fact) (o : Outline) (s0 s1 s2 s3 s4 s5 : Seen) (context inner : Context) (r : Role) (inside : Syntax)
-    → s1 ≡ record s0 { events = s0.events ++ node_events facts (place o s0 context) r inside }
+-- a node is visited: what it declares, what it changes, what it holds, and what stands behind it
+pub visit_step : (facts : List Fact) (o : Outline) (s0 s1 s2 c2 s3 s4 s5 : Seen) (context inner : Context) (r : Role) (inside : Syntax)
+    → s1 ≡ record s0 { events = s0.events ++ declared facts (place o s0 context) r inside }
     → place o s2 inner ≡ within facts (place o s1 context) r inside
     → s2.events ≡ s1.events → Extends s1.locals s2.locals → Extends s1.members s2.members → Extends s1.exits s2.exits
-    → s3.events ≡ s2.events ++ walk facts (place o s2 inner) inside → s3.members ≡ s2.members → s3.exits ≡ s2.exits → Extends s2.locals s3.locals
+    → c2 ≡ record s2 { events = s2.events ++ changes_within facts (place o s2 inner) r inside }
+    → s3.events ≡ c2.events ++ walk facts (place o c2 inner) inside → s3.members ≡ c2.members → s3.exits ≡ c2.exits → Extends c2.locals s3.locals
     → s4 ≡ record s3 { locals = take (length s0.locals) s3.locals; members = take (length s0.members) s3.members; exits = take (length s0.exits) s3.exits }
     → s5 ≡ record s4 { events = s4.events ++ end_events r }
     → s5 ≡ record s0 { events = s0.events ++ visited facts (place o s0 context) r inside }
 unfolding visited
-visit_step facts o s0 s1 s2 s3 s4 s5 context inner r inside before enters kept ls ms xs walked msame xsame lgrow cut behind =
+visit_step facts o s0 s1 s2 c2 s3 s4 s5 context inner r inside before enters kept ls ms xs change walked msame xsame lgrow cut behind =
     let p : Place = place o s0 context in
-    let nodes : List Event = node_events facts p r inside in
+    let q : Place = within facts p r inside in
+    let heads : List Event = declared facts p r inside in
+    let changing : List Event = changes_within facts q r inside in
+    let inners : List Event = walk facts q inside in
     let around : place o s1 context ≡ p = ap (λ (s : Seen). place o s context) before in
-    let begun : place o s2 inner ≡ within facts p r inside = enters ∙ ap (λ (q : Place). within facts q r inside) around in
+    let begun : place o s2 inner ≡ q = enters ∙ ap (λ (x : Place). within facts x r inside) around in
+    let still : place o c2 inner ≡ q = ap (λ (s : Seen). place o s inner) change ∙ begun in
     let l1 : s1.locals ≡ s0.locals = ap (λ (s : Seen). s.locals) before in
     let m1 : s1.members ≡ s0.members = ap (λ (s : Seen). s.members) before in
     let x1 : s1.exits ≡ s0.exits = ap (λ (s : Seen). s.exits) before in
-    let e1 : s1.events ≡ s0.events ++ nodes = ap (λ (s : Seen). s.events) before in
-    let l3 : Extends s1.locals s3.locals = extends_all s1.locals s2.locals s3.locals ls lgrow in
+    let e1 : s1.events ≡ s0.events ++ heads = ap (λ (s : Seen). s.events) before in
+    let l2 : c2.locals ≡ s2.locals = ap (λ (s : Seen). s.locals) change in
+    let m2 : c2.members ≡ s2.members = ap (λ (s : Seen). s.members) change in
+    let x2 : c2.exits ≡ s2.exits = ap (λ (s : Seen). s.exits) change in
+    let e2 : c2.events ≡ s0.events ++ (heads ++ changing) =
+        ap (λ (s : Seen). s.events) change ∙ ap (λ (x : Place). s2.events ++ changes_within facts x r inside) begun
+        ∙ ap (λ (l : List Event). l ++ changing) (kept ∙ e1) ∙ append_assoc s0.events heads changing in
+    let l3 : Extends s1.locals s3.locals =
+        extends_all s1.locals s2.locals s3.locals ls (subst (λ (l : List Binding). Extends l s3.locals) l2 lgrow) in
     let lcut : take (length s0.locals) s3.locals ≡ s0.locals =
         ap (λ (l : List Binding). take (length l) s3.locals) (sym l1) ∙ extends_cut s1.locals s3.locals l3 ∙ l1 in
     let mcut : take (length s0.members) s3.members ≡ s0.members =
-        ap (λ (l : List Binding). take (length l) s3.members) (sym m1) ∙ ap (take (length s1.members)) msame ∙ extends_cut s1.members s2.members ms ∙ m1 in
+        ap (λ (l : List Binding). take (length l) s3.members) (sym m1) ∙ ap (take (length s1.members)) (msame ∙ m2) ∙ extends_cut s1.members s2.members ms ∙ m1 in
     let xcut : take (length s0.exits) s3.exits ≡ s0.exits =
-        ap (λ (l : List Exit). take (length l) s3.exits) (sym x1) ∙ ap (take (length s1.exits)) xsame ∙ extends_cut s1.exits s2.exits xs ∙ x1 in
-    let inner_events : List Event = walk facts (within facts p r inside) inside in
-    let e3 : s3.events ≡ s0.events ++ nodes ++ inner_events =
-        walked ∙ ap (λ (q : Place). s2.events ++ walk facts q inside) begun ∙ ap (λ (l : List Event). l ++ inner_events) (kept ∙ e1) in
-    let e5 : s3.events ++ end_events r ≡ s0.events ++ (nodes ++ inner_events ++ end_events r) =
-        ap (λ (l : List Event). l ++ end_events r) (e3 ∙ append_assoc s0.events nodes inner_events)
-        ∙ append_assoc s0.events (nodes ++ inner_events) (end_events r) in
+        ap (λ (l : List Exit). take (length l) s3.exits) (sym x1) ∙ ap (take (length s1.exits)) (xsame ∙ x2) ∙ extends_cut s1.exits s2.exits xs ∙ x1 in
+    let e3 : s3.events ≡ s0.events ++ (heads ++ changing ++ inners) =
+        walked ∙ ap (λ (x : Place). c2.events ++ walk facts x inside) still ∙ ap (λ (l : List Event). l ++ inners) e2
+        ∙ append_assoc s0.events (heads ++ changing) inners in
+    let e5 : s3.events ++ end_events r ≡ s0.events ++ (heads ++ changing ++ inners ++ end_events r) =
+        ap (λ (l : List Event). l ++ end_events r) e3 ∙ append_assoc s0.events (heads ++ changing ++ inners) (end_events r) in
     behind ∙ ap (λ (s : Seen). record s { events = s.events ++ end_events r }) cut
     ∙ ap (λ (l : List Binding). record { locals = l; members = take (length s0.members) s3.members; exits = take (length s0.exits) s3.exits; events = s3.events ++ end_events r }) lcut
     ∙ ap (λ (l : List Binding). record { locals = s0.locals; members = l; exits = take (length s0.exits) s3.exits; events = s3.events ++ end_events r }) mcut

@@ -238,15 +238,18 @@ declared facts p role.Members inside = repeated facts [] (members_in inside)
 declared facts p role.Container inside = event.Opens (first_token inside) ∷ []
 declared facts p _ inside = []
 
-unfoldable pub changed : List ℕ → List Event
-changed [] = []
-changed (t ∷ more) = event.Changes t ∷ changed more
+-- a local is changed where it stands at the base of what a form may change
+abbrev pub change_of : Target → List Event
+change_of (target.Local d) = event.Changes d ∷ []
+change_of (target.Declared c) = []
+change_of target.Primitive = []
+change_of target.Unknown = []
 
--- what is found at a node
-unfoldable pub node_events : List Fact → Place → Role → Syntax → List Event
-node_events facts p r inside = changed (changes facts r inside) ++ declared facts p r inside
+unfoldable pub changed : List Fact → List Binding → List Binding → List ℕ → List Event
+changed facts locals members [] = []
+changed facts locals members (t ∷ more) = change_of (target_of facts locals members t) ++ changed facts locals members more
 
--- and behind it
+-- what is found behind a node
 unfoldable pub end_events : Role → List Event
 end_events role.Container = event.Closes ∷ []
 end_events _ = []
@@ -353,22 +356,28 @@ past_node facts p role.Captures inside = record p { bound = binders role.Capture
 past_node facts p role.Prototype inside = record p { bound = binders role.Prototype inside }
 past_node facts p _ inside = after_part p.reading p
 
+-- what a node changes, seen from within it
+unfoldable pub changes_within : List Fact → Place → Role → Syntax → List Event
+changes_within facts p r inside = changed facts p.locals p.members (changes facts r inside)
+
 -- what is found in a row, from a place on
 unfoldable pub walk : List Fact → Place → Syntax → List Event
 walk facts p nothing = []
 walk facts p (word t k more) = word_events facts p t (mark_of k) more ++ walk facts (past_word facts p t (mark_of k)) more
 walk facts p (node r inside more) =
-    node_events facts p (role_of r) inside ++ walk facts (within facts p (role_of r) inside) inside ++ end_events (role_of r)
+    declared facts p (role_of r) inside ++ changes_within facts (within facts p (role_of r) inside) (role_of r) inside
+      ++ walk facts (within facts p (role_of r) inside) inside ++ end_events (role_of r)
       ++ walk facts (past_node facts p (role_of r) inside) more
 
 -- what is found in a node and behind it
 unfoldable pub visited : List Fact → Place → Role → Syntax → List Event
-visited facts p r inside = node_events facts p r inside ++ walk facts (within facts p r inside) inside ++ end_events r
+visited facts p r inside =
+    declared facts p r inside ++ changes_within facts (within facts p r inside) r inside ++ walk facts (within facts p r inside) inside ++ end_events r
 
 -- before a file's first token nothing is in scope
 abbrev pub outside : Place
 outside = record { locals = []; members = []; exits = []; in_function = false; reading = reading.Plain; bound = []; next_exit = None }
 
--- what is found in a file
-unfoldable pub events_of : List Fact → Syntax → List Event
-events_of facts root = walk facts outside root
+-- what is found in a file, by its root and what that holds
+unfoldable pub events_of : List Fact → Rule → Syntax → List Event
+events_of facts root inside = visited facts outside (role_of root) inside

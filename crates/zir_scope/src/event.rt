@@ -29,8 +29,8 @@ pub enum Sort {
 pub enum Event {
     /// A name is mentioned.
     Mentions { token: u32, target: Target },
-    /// The name that is mentioned here may be changed.
-    Changes { token: u32 },
+    /// The local that this token declares may be changed here.
+    Changes { local: u32 },
     /// A local, a parameter or a capture is declared.
     Declares { token: u32, sort: Sort },
     /// A name is declared that is used already.

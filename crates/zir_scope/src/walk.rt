@@ -8,7 +8,7 @@ ghost use Rattle.zir_scope.specs.Scoping as spec;
 ghost use Rattle.zir_scope.specs.State.{place, seen, Extends};
 ghost use Rattle.zir_scope.specs.Syntax.{inside_of, row_in, rule_at};
 
-use crate::event::{Event, Sort};
+use crate::event::{Event, Sort, Target};
 use crate::outline::Outline;
 use crate::place::{Context, Reading};
 use crate::roles::Role;
@@ -36,50 +36,52 @@ fn local_sort(is_var: bool) -> Sort
 }
 
 impl Scope {
-    /// The name at the base of an operand may be changed, where there is one.
+    /// The local at the base of an operand may be changed, where it is one.
     #[tactic(auto, unfolding(crate::specs::Scoping::changed))]
-    fn change(&mut self, base: Option<u32>) -> Result<(), AllocError>
-        ensures { OnOk result (seen self.new ≡ record (seen self.old) { events = (seen self.old).events ++ spec.changed (joined base []) }) }
+    fn change(&mut self, outline: &Outline<'_>, base: Option<u32>) -> Result<(), AllocError>
+        ensures { OnOk result (seen self.new ≡ record (seen self.old) { events = (seen self.old).events ++ spec.changed outline.now.facts.now (seen self.old).locals (seen self.old).members (joined base []) }) }
     {
-        match base {
-            Some(token) => self.emit(Event::Changes { token }),
-            None => Ok(()),
+        let Some(token) = base else {
+            return Ok(());
+        };
+        match self.target(outline, token) {
+            Target::Local(local) => self.emit(Event::Changes { local }),
+            _ => Ok(()),
         }
     }
 
-    /// The names at the base of what a node may change.
-    #[tactic(auto, unfolding(crate::specs::Changes::changes, crate::specs::Scoping::changed))]
+    /// The locals at the base of what a node may change, seen from within it.
+    #[tactic(auto, unfolding(crate::specs::Changes::changes, crate::specs::Scoping::changed, crate::specs::Scoping::changes_within))]
     fn changes(
         &mut self,
         alloc: Global,
         outline: &Outline<'_>,
+        context: Context,
         node: u32,
     ) -> Result<(), AllocError>
-        ensures { OnOk result (seen self.new ≡ record (seen self.old) { events = (seen self.old).events ++ spec.changed (changes outline.now.facts.now (role_of (rule_at outline.now.nodes.now node)) (inside_of outline.now node)) }) }
+        ensures { OnOk result (seen self.new ≡ record (seen self.old) { events = (seen self.old).events ++ spec.changes_within outline.now.facts.now (place outline.now (seen self.old) context) (role_of (rule_at outline.now.nodes.now node)) (inside_of outline.now node) }) }
     {
         let row = outline.kids(node);
         if is_for(outline.role(node)) {
             let flags = outline.bar_flags(alloc, row)?;
-            return self.change_arguments(outline, flags.as_slice(), row, node);
+            return self.change_arguments(outline, flags.as_slice(), row);
         }
         if outline.changes_base(node) {
-            self.change(outline.base(row, node))
+            self.change(outline, outline.base(row, node))
         } else {
             Ok(())
         }
     }
 
-    /// The names at the base of those operands of a `for` that are captured by pointer.
-    #[tactic(auto, using(crate::proofs::Trees::earlier_steps), unfolding(crate::specs::Scoping::changed, crate::specs::Changes::argument_bases, crate::specs::Syntax::row_in, crate::specs::Syntax::inside_of))]
+    /// The locals at the base of those operands of a `for` that are captured by pointer.
+    #[tactic(auto, unfolding(crate::specs::Scoping::changed, crate::specs::Changes::argument_bases, crate::specs::Syntax::row_in, crate::specs::Syntax::inside_of))]
     fn change_arguments(
         &mut self,
         outline: &Outline<'_>,
         flags: &[bool],
         row: &[Kid],
-        before: u32,
     ) -> Result<(), AllocError>
-        requires { are_earlier before row.now ≡ true }
-        ensures { OnOk result (seen self.new ≡ record (seen self.old) { events = (seen self.old).events ++ spec.changed (argument_bases outline.now.facts.now flags.now (row_in outline.now row.now)) }) }
+        ensures { OnOk result (seen self.new ≡ record (seen self.old) { events = (seen self.old).events ++ spec.changed outline.now.facts.now (seen self.old).locals (seen self.old).members (argument_bases outline.now.facts.now flags.now (row_in outline.now row.now)) }) }
     {
         let mut rest = row;
         let mut left = flags;
@@ -98,7 +100,7 @@ impl Scope {
         Ok(())
     }
 
-    /// The name at the base of an operand of a `for`, where it is captured by pointer.
+    /// The local at the base of an operand of a `for`, where it is captured by pointer.
     #[tactic(auto, unfolding(crate::specs::Scoping::changed))]
     fn change_argument(
         &mut self,
@@ -106,10 +108,10 @@ impl Scope {
         flags: &[bool],
         node: u32,
     ) -> Result<(), AllocError>
-        ensures { OnOk result (seen self.new ≡ record (seen self.old) { events = (seen self.old).events ++ spec.changed (joined (provided (first_flag flags.now) (base outline.now.facts.now (inside_of outline.now node))) []) }) }
+        ensures { OnOk result (seen self.new ≡ record (seen self.old) { events = (seen self.old).events ++ spec.changed outline.now.facts.now (seen self.old).locals (seen self.old).members (joined (provided (first_flag flags.now) (base outline.now.facts.now (inside_of outline.now node))) []) }) }
     {
         if first(flags) {
-            self.change(outline.base(outline.kids(node), node))
+            self.change(outline, outline.base(outline.kids(node), node))
         } else {
             Ok(())
         }
@@ -141,21 +143,6 @@ impl Scope {
             }),
             _ => Ok(()),
         }
-    }
-
-    /// What is found at a node.
-    #[tactic(auto, unfolding(crate::specs::Scoping::node_events))]
-    fn before(
-        &mut self,
-        alloc: Global,
-        outline: &Outline<'_>,
-        context: Context,
-        node: u32,
-    ) -> Result<(), AllocError>
-        ensures { OnOk result (seen self.new ≡ record (seen self.old) { events = (seen self.old).events ++ spec.node_events outline.now.facts.now (place outline.now (seen self.old) context) (role_of (rule_at outline.now.nodes.now node)) (inside_of outline.now node) }) }
-    {
-        self.changes(alloc, outline, node)?;
-        self.declared(outline, context, node)
     }
 
     /// What is found behind a node.
@@ -211,8 +198,9 @@ impl Scope {
         ensures { OnOk result (seen self.new ≡ record (seen self.old) { events = (seen self.old).events ++ spec.visited outline.now.facts.now (place outline.now (seen self.old) context) (role_of (rule_at outline.now.nodes.now node)) (inside_of outline.now node) }) }
     {
         let marks = self.marks();
-        self.before(alloc, outline, context, node)?;
+        self.declared(outline, context, node)?;
         let inner = self.enter(outline, context, node)?;
+        self.changes(alloc, outline, inner, node)?;
         self.walk(alloc, outline, inner, outline.kids(node), node)?;
         self.cut(marks);
         self.behind(outline, node)?;

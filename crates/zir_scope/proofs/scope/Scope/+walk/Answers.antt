@@ -14,13 +14,16 @@ pub visit-returns : goal.visit-returns
 visit-returns t c =
     let o = c.args.outline.now in
     let inner = c.in_ok-inner.inner in
-    let s2 = seen c.enter.new.self in
-    let s3 = seen c.walk.new.self in
-    visit_step _ o (seen c.args.self.now) (seen c.before-2.new.self) s2 (seen c.walk.new.self) (seen c.cut.new.self) (seen c.behind.new.self)
+    let changed = seen c.changes.new.self in
+    let last = seen c.walk.new.self in
+    visit_step _ o (seen c.args.self.now) (seen c.declared.new.self) (seen c.enter.new.self) changed last (seen c.cut.new.self) (seen c.behind.new.self)
         c.args.context inner _ _
-        c.in_ok-before.ensures c.in_ok-inner.ensures.place c.in_ok-inner.ensures.events c.in_ok-inner.ensures.locals c.in_ok-inner.ensures.members c.in_ok-inner.ensures.exits
-        (c.in_ok-walk.ensures.events ∙ ap (λ (row : Syntax). s2.events ++ walk o.facts.now (place o s2 inner) row) c.kids.ensures.row)
-        c.in_ok-walk.ensures.members c.in_ok-walk.ensures.exits c.in_ok-walk.ensures.locals (c.cut.ensures ∙ ap (λ (m : Marks). record s3 { locals = take m.locals s3.locals; members = take m.members s3.members; exits = take m.exits s3.exits }) c.marks-marks.ensures) c.in_ok-behind.ensures
+        c.in_ok-declared.ensures c.in_ok-inner.ensures.place c.in_ok-inner.ensures.events c.in_ok-inner.ensures.locals c.in_ok-inner.ensures.members c.in_ok-inner.ensures.exits
+        c.in_ok-changes.ensures
+        (c.in_ok-walk.ensures.events ∙ ap (λ (row : Syntax). changed.events ++ walk o.facts.now (place o changed inner) row) c.kids.ensures.row)
+        c.in_ok-walk.ensures.members c.in_ok-walk.ensures.exits c.in_ok-walk.ensures.locals
+        (c.cut.ensures ∙ ap (λ (m : Marks). record last { locals = take m.locals last.locals; members = take m.members last.members; exits = take m.exits last.exits }) c.marks-marks.ensures)
+        c.in_ok-behind.ensures
 
 pub walk-loop-rest-preserved-in_ok-word-in-Token : goal.walk-loop-rest-preserved-in_ok-word-in-Token
 unfolding row_in inside_of
