@@ -6,3 +6,5 @@ pub mod Binders
 pub mod Changes
 pub mod Scoping
 pub mod State
+pub mod Facts
+pub mod Findings

@@ -8,9 +8,11 @@ mod declare;
 mod enter;
 mod event;
 mod facts;
+mod findings;
 mod names;
 mod outline;
 mod place;
+mod scopes;
 mod roles;
 mod rows;
 mod scope;
@@ -22,5 +24,9 @@ pub use event::{Event, Sort, Target};
 pub use facts::Fact;
 pub use outline::Outline;
 pub use place::{Context, Exit, Reading};
+pub use scopes::{Scopes, resolve};
 pub use scope::Scope;
 pub use roles::{Mark, Role, mark_of, role_of};
+
+#[cfg(test)]
+mod tests;

@@ -6,7 +6,7 @@ use zig_tree::{Node, Token};
 
 /// The tokens and the nodes of a file, each node after those that it holds, and what scoping sees of
 /// each token's text.
-#[derive(Debug)]
+#[derive(Debug, Drop)]
 pub struct Outline<'a> {
     pub tokens: &'a [Token],
     pub nodes: &'a [Node],

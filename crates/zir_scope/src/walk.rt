@@ -188,7 +188,7 @@ impl Scope {
 
     /// A node, and all that it holds.
     #[cycle(walk)]
-    fn visit(
+    pub fn visit(
         &mut self,
         alloc: Global,
         outline: &Outline<'_>,

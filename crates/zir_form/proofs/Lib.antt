@@ -1,0 +1,4 @@
+pub mod Digits
+pub mod NameLemmas
+pub mod PlaceLemmas
+pub mod Rows
