@@ -20,7 +20,7 @@ module _ {X : Type 0} (f : X → List ℕ) (IsFit : X → Type 0) (Like : X → 
     pub unique : (a b : X) (x y : List ℕ) → IsFit a → IsFit b → Like a b → length (f a) < n → Goes c x → Goes c y → f a ++ x ≡ f b ++ y → (a ≡ b) × (x ≡ y)
     pub begins : (a : X) (x y : List ℕ) → IsFit a → Goes c x → f a ++ x ≡ c ∷ y → ⊥
 
-  goes_on : (xs : List X) (x : List ℕ) → Goes c (behind_commas (map f xs) ++ c ∷ x)
+  pub goes_on : (xs : List X) (x : List ℕ) → Goes c (behind_commas (map f xs) ++ c ∷ x)
   goes_on [] x = done x
   goes_on (a ∷ xs) x = more ((f a ++ behind_commas (map f xs)) ++ c ∷ x)
 

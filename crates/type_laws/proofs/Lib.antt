@@ -6,3 +6,5 @@ pub mod Parts
 pub mod Ends
 pub mod HeadBytes
 pub mod Steps
+pub mod Spines
+pub mod Types
