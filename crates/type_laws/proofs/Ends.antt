@@ -1,5 +1,5 @@
 -- What may stand behind a type or a value, and what behind a run of bytes.
-use Rattle.std.proofs.Common.{◌≡◌, ℕ, ◌==◌, not, Bool, true, false, if◌then◌else◌, List, [], ◌∷◌, ◌++◌, refl, ap, ◌∙◌}
+use Rattle.std.proofs.Common.{◌≡◌, ℕ, not, Bool, true, false, if◌then◌else◌, List, [], ◌∷◌, ◌++◌, refl, ap, ◌∙◌}
 use Rattle.std.specs.List.{list_all}
 use Rattle.zw_base.specs.Path.{is_path_byte}
 use Rattle.type_form.specs.Spelling.{is_word_byte}

@@ -1,16 +1,15 @@
 -- What the first bytes of a type tell of it.
-use Rattle.std.proofs.Common.{◌≡◌, ℕ, ◌<◌, nat_le, ◌==◌, ◌&&◌, ◌||◌, Bool, true, false, if◌then◌else◌, List, [], ◌∷◌, ◌++◌, map, codes, refl, sym, ap, ◌∙◌, append_assoc, true≢false, arith}
+use Rattle.std.proofs.Common.{◌≡◌, ℕ, ◌==◌, ◌&&◌, ◌||◌, Bool, true, false, if◌then◌else◌, List, [], ◌∷◌, ◌++◌, codes, refl, ap, ◌∙◌, append_assoc, arith}
 use Rattle.std.specs.List.{list_all, list_any}
 use Rattle.std.specs.Str.{bytes_eq}
 use Rattle.zw_base.specs.Path.{is_path_byte}
 use Rattle.type_form.specs.declared.tree.Arg.TheOpen as layer
-use Rattle.type_form.specs.declared.tree.Ty.{Ty, out-Ty}
-use Rattle.type_form.specs.declared.tree.DeclPath.{DeclPath}
+use Rattle.type_form.specs.declared.tree.Ty.{out-Ty}
 use Rattle.type_form.specs.declared.tree.SimpleTy.{SimpleTy}
 use Rattle.type_form.specs.declared.tree.SimpleTy.TheVariants as simple
 use Rattle.type_form.specs.Tree.{TyLayer}
 use Rattle.type_form.specs.Spelling.{number_text, simple_text, decl_text, ty_text}
-use Rattle.type_laws.specs.Fit.{Program, IsNumber, IsPath, IsErrorSet, IsFitDecl, ty_fits}
+use Rattle.type_laws.specs.Fit.{IsNumber, IsPath, IsErrorSet, ty_fits}
 use Rattle.type_laws.proofs.Runs.{stops, is_digit, and_left, and_right, number_digits}
 use Rattle.type_laws.proofs.Ends.{Ends, Run, run, run_of, ends_path}
 use Rattle.type_laws.proofs.Ends.Ends.{nothing, comma, round, equals, brace, square}
@@ -168,6 +167,19 @@ kind_is (layer.Ty::Function ps r) x h f e = (fixed_kinds _ x).4
 pub kind_none : (y : List ℕ) → (kind (41 ∷ y) ≡ 0) × (kind (125 ∷ y) ≡ 0) × (kind (codes "const " ++ y) ≡ 0) × (kind (codes "generic)" ++ y) ≡ 0)
 unfolding kind word_kind simple_words
 kind_none y = (refl, refl, refl, refl)
+
+-- nor does `undefined`, or a parenthesis
+pub kind_undefined : (x : List ℕ) → Ends x → kind (codes "undefined" ++ x) ≡ 0
+unfolding word_kind simple_words
+kind_undefined x e = kind_word 117 (codes "ndefined") x refl e
+
+pub kind_open : (y : List ℕ) → kind (40 ∷ y) ≡ 0
+unfolding kind
+kind_open y = refl
+
+pub kind_of_not : (l : TyLayer) → (kind_of l == 0) ≡ false
+kind_of_not (layer.Ty::Simple s) = refl
+kind_of_not _ = refl
 
 pub kind_some : (l : TyLayer) → kind_of l ≡ 0 → ⊥
 kind_some (layer.Ty::Simple s) k = omega (arith, k)

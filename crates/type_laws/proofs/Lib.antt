@@ -8,3 +8,6 @@ pub mod HeadBytes
 pub mod Steps
 pub mod Spines
 pub mod Types
+pub mod ValueHeads
+pub mod Values
+pub mod Whole

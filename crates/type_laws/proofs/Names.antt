@@ -1,7 +1,6 @@
 -- Names are read back from a text that begins with one and goes on with no letter, digit or `_`.
-use Rattle.std.proofs.Common.{◌≡◌, ℕ, ◌<◌, ◌≤◌, nat_le, ◌==◌, not, ◌&&◌, ◌||◌, Bool, true, false, List, [], ◌∷◌, ◌++◌, codes, refl, sym, ap, subst, ◌∙◌, append_assoc, true≢false}
-use Rattle.std.specs.List.{list_all, list_any}
-use Rattle.std.specs.Str.{bytes_eq}
+use Rattle.std.proofs.Common.{◌≡◌, ℕ, ◌==◌, not, ◌&&◌, ◌||◌, Bool, true, false, List, [], ◌∷◌, ◌++◌, codes, refl, sym, ap, ◌∙◌, append_assoc, true≢false}
+use Rattle.std.specs.List.{list_all}
 use Rattle.type_form.specs.Spelling.{is_letter, is_word_byte, quoted, is_keyword, is_plain, name_text}
 use Rattle.type_form.proofs.LengthLemmas.{name_text-plain, name_text-quoted}
 use Rattle.type_laws.proofs.Runs.{and_left, and_right, stops, run_unique, quoted_unique, heads}

@@ -1,7 +1,7 @@
 -- The parts of a fit tree are fit.
-use Rattle.std.proofs.Common.{◌≡◌, ℕ, List, [], ◌∷◌, map, refl, sym, ap, subst, ◌∙◌}
+use Rattle.std.proofs.Common.{List, [], ◌∷◌, map, refl, subst}
 use Rattle.std.specs.List.{AllByRecursion}
-use Rattle.type_form.specs.declared.tree.Ty.{Ty, out-Ty, map-Ty, roll-Ty}
+use Rattle.type_form.specs.declared.tree.Ty.{Ty, out-Ty, map-Ty}
 use Rattle.type_form.specs.declared.tree.Value.{Value, out-Value, map-Value}
 use Rattle.type_form.specs.declared.tree.DeclPath.{DeclPath, out-DeclPath, map-DeclPath}
 use Rattle.type_form.specs.declared.tree.Arg.{Arg, out-Arg, map-Arg}

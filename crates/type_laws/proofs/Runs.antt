@@ -1,11 +1,11 @@
 -- Runs of bytes, numbers, names and quoted bytes are read back from a text that begins with them.
-use Rattle.std.proofs.Common.{◌≡◌, ◌≢◌, ℕ, ℤ, pos, negsuc, zero, suc, ◌+◌, ◌/◌, ◌%◌, ◌*◌, ◌^◌, ◌<◌, ◌≤◌, nat_lt, nat_le, ◌==◌, not, ◌&&◌, ◌||◌, Bool, true, false, if◌then◌else◌, List, [], ◌∷◌, ◌++◌, length, map, codes, refl, sym, ap, subst, ◌∙◌, arith, append_assoc, true≢false}
+use Rattle.std.proofs.Common.{◌≡◌, ℕ, ℤ, pos, negsuc, suc, ◌/◌, ◌%◌, ◌^◌, ◌<◌, ◌≤◌, nat_le, ◌==◌, not, ◌&&◌, ◌||◌, Bool, true, false, if◌then◌else◌, List, [], ◌∷◌, ◌++◌, length, refl, sym, ap, subst, ◌∙◌, arith, append_assoc, true≢false}
 use Rattle.std.specs.List.{list_all, flat_map}
-use Rattle.std.specs.Fmt.{decimal, signed_decimal}
+use Rattle.std.specs.Fmt.{decimal}
 use Rattle.std.specs.Str.Parse.{AllDigits, digits_value}
 use Rattle.std.proofs.lemmas.Fmt.{decimal_is_IsNumeral_wide}
 use Rattle.std.proofs.lemmas.Str.Parse.{digit_from_value}
-use Rattle.type_form.specs.Spelling.{number_text, int_text, is_letter, is_word_byte, hex_digit, quoted_byte, quoted, is_keyword, is_plain, name_text}
+use Rattle.type_form.specs.Spelling.{number_text, int_text, is_word_byte, hex_digit, quoted_byte, quoted}
 use Rattle.type_laws.specs.Fit.{IsNumber, IsInteger}
 
 pub and_left : (a b : Bool) → (a && b) ≡ true → a ≡ true
@@ -126,6 +126,15 @@ int_unique (negsuc m) (negsuc n) x y h k s t e =
     let g : number_text (suc m) ++ x ≡ number_text (suc n) ++ y = cc in
     let r = number_unique (suc m) (suc n) x y (neg_fits m h) (neg_fits n k) s t g in
     (ap negsuc (omega (arith, r.0)), r.1)
+
+or_first : (a b : Bool) → a ≡ true → (a || b) ≡ true
+or_first true b e = refl
+or_first false b e = absurd (true≢false (sym e))
+
+-- an integer begins with a digit or a minus sign
+pub int_head : (z : ℤ) → IsInteger z → (c : ℕ) × (rest : List ℕ) × (int_text z ≡ c ∷ rest) × ((is_digit c || (c == 45)) ≡ true)
+int_head (pos n) h = let r = number_head n (pos_fits n h) in (r.0, r.1, int_pos n ∙ r.2, or_first (is_digit r.0) _ r.3)
+int_head (negsuc n) h = (45, number_text (suc n), int_neg n, refl)
 
 -- quoted bytes
 

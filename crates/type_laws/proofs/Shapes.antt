@@ -1,5 +1,5 @@
 -- The spelling of a tree by its outer layer.
-use Rattle.std.proofs.Common.{◌≡◌, ℕ, Bool, List, [], ◌∷◌, ◌++◌, map, codes, if◌then◌else◌, refl, sym, ap, ◌∙◌}
+use Rattle.std.proofs.Common.{◌≡◌, ℕ, List, [], ◌∷◌, ◌++◌, map, codes, if◌then◌else◌, sym, ap, ◌∙◌}
 use Rattle.type_form.specs.declared.tree.Ty.{Ty, out-Ty, roll-Ty, roll-out-Ty}
 use Rattle.type_form.specs.declared.tree.Value.{Value, out-Value, roll-Value, roll-out-Value}
 use Rattle.type_form.specs.declared.tree.DeclPath.{DeclPath, out-DeclPath, roll-DeclPath, roll-out-DeclPath}

@@ -1,5 +1,5 @@
 -- Each fit declaration is reached from a file by steps, and its spelling is theirs.
-use Rattle.std.proofs.Common.{◌≡◌, ℕ, zero, suc, ◌+◌, ◌<◌, ◌≤◌, true, List, [], ◌∷◌, ◌++◌, length, map, codes, refl, sym, ap, subst, ◌∙◌, arith, append_assoc, append-nil, length-append}
+use Rattle.std.proofs.Common.{◌≡◌, ℕ, zero, suc, ◌<◌, ◌≤◌, true, List, [], ◌∷◌, ◌++◌, length, map, codes, refl, sym, ap, subst, ◌∙◌, arith, append_assoc, append-nil, length-append}
 use Rattle.std.specs.List.{AllByRecursion}
 use Rattle.zw_base.specs.Path.{is_path_byte}
 use Rattle.type_form.specs.declared.tree.Ty.{Ty, out-Ty}
@@ -10,7 +10,7 @@ use Rattle.type_form.specs.declared.tree.DeclPath.TheVariants as decl
 use Rattle.type_form.specs.declared.tree.Arg.TheOpen as layer
 use Rattle.type_form.specs.declared.tree.SimpleTy.TheVariants as simple
 use Rattle.type_form.specs.Tree.{TyLayer, DeclLayer}
-use Rattle.type_form.specs.Spelling.{number_text, name_text, commas, in_parens, arg_text, decl_text, place_text, mark_text}
+use Rattle.type_form.specs.Spelling.{number_text, name_text, commas, in_parens, arg_text, decl_text, mark_text}
 use Rattle.type_form.proofs.SpellLemmas.{decl_text-Named, decl_text-Comptime, place_text-FileType, mark_text-FileType, place_text-ContainerType, mark_text-ContainerType}
 use Rattle.type_laws.specs.Fit.{Program, IsNumber, IsPath, IsPlace, IsFit, IsFitArg, IsFitDecl, ty_fits, decl_fits}
 use Rattle.type_laws.proofs.Runs.{run_unique, stops}
@@ -21,7 +21,7 @@ use Rattle.type_laws.proofs.Ends.{Ends}
 use Rattle.type_laws.proofs.HeadBytes.{IsHeaded}
 use Rattle.type_laws.proofs.Steps.{Step, Place, step_text, steps_text, take_step, take_all, step_fits, steps_unique, AnyTwo}
 use Rattle.type_laws.proofs.Steps.Step.{OfMember, OfBlock, OfInner, OfExpr, OfArgs}
-use Rattle.type_laws.proofs.Steps.Place.{AtPath, AtDecl, AtExpr, AtContainer, AtInstance, Nowhere}
+use Rattle.type_laws.proofs.Steps.Place.{AtPath, AtDecl, AtExpr, AtContainer}
 
 -- a text is that of a file's path and of steps that lead to a place
 pub record Spine (p : Program) (place : Place) (text : List ℕ) : Type 0 where
@@ -68,26 +68,28 @@ module _ (p : Program) where
   -- one more step
   pub grow : (place : Place) (text : List ℕ) (s : Step) → Spine p place text → step_fits p s → Spine p (take_step place s) (text ++ step_text s)
   grow place text s sp f = record {
-      path = sp.path;
-      is_path = sp.is_path;
-      steps = sp.steps ++ s ∷ [];
-      rest = sp.rest ++ step_text s;
-      begins = steps_push sp.steps s ∙ ap (λ z. z ++ step_text s) sp.begins;
-      leads = take_push (AtPath sp.path) sp.steps s ∙ ap (λ q. take_step q s) sp.leads;
-      fits = fits_push p sp.steps s sp.fits f;
-      is = ap (λ z. z ++ step_text s) sp.is ∙ append_assoc sp.path (steps_text sp.steps) (step_text s) ∙ ap (λ z. sp.path ++ z) (sym (steps_push sp.steps s)) }
+    path = sp.path;
+    is_path = sp.is_path;
+    steps = sp.steps ++ s ∷ [];
+    rest = sp.rest ++ step_text s;
+    begins = steps_push sp.steps s ∙ ap (λ z. z ++ step_text s) sp.begins;
+    leads = take_push (AtPath sp.path) sp.steps s ∙ ap (λ q. take_step q s) sp.leads;
+    fits = fits_push p sp.steps s sp.fits f;
+    is = ap (λ z. z ++ step_text s) sp.is ∙ append_assoc sp.path (steps_text sp.steps) (step_text s) ∙ ap (λ z. sp.path ++ z) (sym (steps_push sp.steps s));
+  }
 
   -- the first step
   start : (path : List ℕ) (s : Step) (rest : List ℕ) → IsPath path → step_text s ≡ 58 ∷ rest → step_fits p s → Spine p (take_step (AtPath path) s) (path ++ step_text s)
   start path s rest h e f = record {
-      path = path;
-      is_path = h;
-      steps = s ∷ [];
-      rest = rest;
-      begins = append-nil (step_text s) ∙ e;
-      leads = refl;
-      fits = (f, tt);
-      is = ap (λ z. path ++ z) (sym (append-nil (step_text s))) }
+    path = path;
+    is_path = h;
+    steps = s ∷ [];
+    rest = rest;
+    begins = append-nil (step_text s) ∙ e;
+    leads = refl;
+    fits = (f, tt);
+    is = ap (λ z. path ++ z) (sym (append-nil (step_text s)));
+  }
 
   -- a container behind its declaration
   pub container_spine : (d : DeclPath) (n : ℕ) (captures : List Arg) (text : List ℕ) → Spine p (AtDecl d) text → IsNumber n → AllByRecursion (IsFitArg p) captures
@@ -97,7 +99,7 @@ module _ (p : Program) where
       subst (Spine p (AtExpr d n)) (ap (λ z. text ++ 35 ∷ z) (sym (append-nil (number_text n)))) (grow (AtDecl d) text (OfExpr n) sp h)
   container_spine d n (a ∷ rest) text sp h f =
       subst (Spine p (AtContainer d n (a ∷ rest))) (append_assoc text (35 ∷ number_text n) (40 ∷ (commas (map arg_text (a ∷ rest)) ++ 41 ∷ [])))
-          (grow (AtExpr d n) (text ++ 35 ∷ number_text n) (OfArgs (a ∷ rest)) (grow (AtDecl d) text (OfExpr n) sp h) f)
+      (grow (AtExpr d n) (text ++ 35 ∷ number_text n) (OfArgs (a ∷ rest)) (grow (AtDecl d) text (OfExpr n) sp h) f)
 
   inner_leads : (d : DeclPath) (n : ℕ) (captures : List Arg) (name : List ℕ) → take_step (container_place d n captures) (OfInner name) ≡ AtDecl (decl.Named (ty.Container d n captures) name)
   unfolding container_place
@@ -133,7 +135,7 @@ module _ (p : Program) where
       let sp = ih d (omega (arith, small, size, outer, inner)) f in
       let whole = grow (container_place d k captures) (decl_text d ++ middle) (OfInner name) (container_spine d k captures (decl_text d) sp h g) tt in
       subst (λ q. Spine p q (decl_text (decl.Named (ty.Container d k captures) name))) (inner_leads d k captures name)
-          (subst (Spine p (take_step (container_place d k captures) (OfInner name))) (sym text) whole)
+      (subst (Spine p (take_step (container_place d k captures) (OfInner name))) (sym text) whole)
 
   named_spine : (n : ℕ) → Reached n → (c : Ty) (name : List ℕ) (l : TyLayer) → out-Ty c ≡ l → IsPlace l → IsFit p c → length (decl_text (decl.Named c name)) < suc n
       → Spine p (AtDecl (decl.Named c name)) (decl_text (decl.Named c name))
@@ -146,7 +148,7 @@ module _ (p : Program) where
       let here : ty_fits (layer.Container d k captures) = subst ty_fits e (ty_here p c f) in
       let held : ty_parts p (layer.Container d k captures) = subst (ty_parts p) e (ty_held p c f) in
       subst (λ z. Spine p (AtDecl (decl.Named z name)) (decl_text (decl.Named z name))) (sym is)
-          (inner_spine n ih d k captures name here held.0 held.1 (subst (λ z. length (decl_text (decl.Named z name)) < suc n) is small))
+      (inner_spine n ih d k captures name here held.0 held.1 (subst (λ z. length (decl_text (decl.Named z name)) < suc n) is small))
   named_spine n ih c name _ e q f small = absurd q
 
   block_spine : (path : List ℕ) (k : ℕ) → IsPath path → IsNumber k → Spine p (AtDecl (decl.Comptime path k)) (decl_text (decl.Comptime path k))
@@ -158,7 +160,7 @@ module _ (p : Program) where
       let here : decl_fits (layer.Named c name) = subst decl_fits e (decl_here p d f) in
       let held : decl_parts p (layer.Named c name) = subst (decl_parts p) e (decl_held p d f) in
       subst (λ z. Spine p (AtDecl z) (decl_text z)) (sym is)
-          (named_spine n ih c name (out-Ty c) refl here held (subst (λ z. length (decl_text z) < suc n) is small))
+      (named_spine n ih c name (out-Ty c) refl here held (subst (λ z. length (decl_text z) < suc n) is small))
   decl_by n ih d (layer.Comptime path k) e small f =
       let is : d ≡ decl.Comptime path k = decl_is d (layer.Comptime path k) e ∙ decl.rolls-Comptime path k in
       let here : decl_fits (layer.Comptime path k) = subst decl_fits e (decl_here p d f) in
@@ -181,7 +183,7 @@ module _ (p : Program) where
   spine_unique n items a b t u x y s r small ex ey e =
       let f = sym (append_assoc s.path (steps_text s.steps) x) ∙ ap (λ z. z ++ x) (sym s.is) ∙ e ∙ ap (λ z. z ++ y) r.is ∙ append_assoc r.path (steps_text r.steps) y in
       let front = run_unique is_path_byte s.path r.path (steps_text s.steps ++ x) (steps_text r.steps ++ y) s.is_path r.is_path
-          (colon (steps_text s.steps) s.rest x s.begins) (colon (steps_text r.steps) r.rest y r.begins) f in
+      (colon (steps_text s.steps) s.rest x s.begins) (colon (steps_text r.steps) r.rest y r.begins) f in
       let size = ap length s.is in
       let parts = length-append s.path (steps_text s.steps) in
       let back = steps_unique p n items s.steps r.steps x y s.fits r.fits (omega (arith, small, size, parts)) ex ey front.1 in

@@ -1,15 +1,13 @@
 -- A declaration's path, read from its file on: each step is a name, a block, a container or arguments.
-use Rattle.std.proofs.Common.{◌≡◌, ℕ, zero, suc, ◌+◌, ◌<◌, ◌≤◌, ◌==◌, ◌||◌, Bool, true, false, List, [], ◌∷◌, ◌++◌, length, map, codes, refl, sym, ap, subst, ◌∙◌, arith, append_assoc, append-nil, length-append, true≢false}
+use Rattle.std.proofs.Common.{◌≡◌, ℕ, ◌<◌, ◌≤◌, ◌==◌, ◌||◌, Bool, true, false, List, [], ◌∷◌, ◌++◌, length, map, codes, refl, sym, ap, ◌∙◌, arith, append_assoc, length-append, true≢false}
 use Rattle.std.specs.List.{AllByRecursion}
-use Rattle.zw_base.specs.Path.{is_path_byte}
-use Rattle.type_form.specs.declared.tree.Ty.{Ty}
 use Rattle.type_form.specs.declared.tree.DeclPath.{DeclPath}
 use Rattle.type_form.specs.declared.tree.Arg.{Arg}
 use Rattle.type_form.specs.declared.tree.Ty.TheVariants as ty
 use Rattle.type_form.specs.declared.tree.DeclPath.TheVariants as decl
 use Rattle.type_form.specs.Spelling.{number_text, name_text, commas, arg_text, is_word_byte}
-use Rattle.type_laws.specs.Fit.{Program, IsNumber, IsPath, IsFitArg}
-use Rattle.type_laws.proofs.Runs.{stops, is_digit, run_unique, number_unique, heads, tails, cut}
+use Rattle.type_laws.specs.Fit.{Program, IsNumber, IsFitArg}
+use Rattle.type_laws.proofs.Runs.{stops, is_digit, number_unique, heads, tails, cut}
 use Rattle.type_laws.proofs.Names.{name_unique, name_comptime}
 use Rattle.type_laws.proofs.Commas.{Items, AreLike, commas_unique}
 use Rattle.type_laws.proofs.Ends.{Ends, ends_word, ends_digit}
@@ -136,7 +134,7 @@ module _ (p : Program) (n : ℕ) (items : Items arg_text (IsFitArg p) AnyTwo n 4
       → (commas (map arg_text xs) ++ 41 ∷ []) ++ x ≡ (commas (map arg_text ys) ++ 41 ∷ []) ++ y → (xs ≡ ys) × (x ≡ y)
   args_unique xs ys x y f g h e =
       commas_unique arg_text (IsFitArg p) AnyTwo n 41 items no_comma xs ys x y f g (all_alike xs ys) h
-          (sym (append_assoc (commas (map arg_text xs)) (41 ∷ []) x) ∙ e ∙ append_assoc (commas (map arg_text ys)) (41 ∷ []) y)
+      (sym (append_assoc (commas (map arg_text xs)) (41 ∷ []) x) ∙ e ∙ append_assoc (commas (map arg_text ys)) (41 ∷ []) y)
 
   step_unique : (s t : Step) (x y : List ℕ) → byte_of s ≡ byte_of t → step_fits p s → step_fits p t → length (step_text s) ≤ n
       → stops is_word_byte x ≡ true → stops is_word_byte y ≡ true → stops is_digit x ≡ true → stops is_digit y ≡ true

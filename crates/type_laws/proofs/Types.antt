@@ -1,5 +1,5 @@
 -- Types are read back, one layer, where all that is shorter is.
-use Rattle.std.proofs.Common.{◌≡◌, ℕ, suc, ◌+◌, ◌<◌, ◌≤◌, ◌==◌, Bool, true, false, if◌then◌else◌, List, [], ◌∷◌, ◌++◌, length, map, codes, refl, sym, ap, subst, ◌∙◌, arith, append_assoc, length-append, true≢false}
+use Rattle.std.proofs.Common.{◌≡◌, ℕ, suc, ◌<◌, ◌==◌, Bool, true, false, if◌then◌else◌, List, [], ◌∷◌, ◌++◌, length, map, codes, refl, sym, ap, subst, ◌∙◌, arith, append_assoc, length-append, true≢false}
 use Rattle.std.specs.List.{AllByRecursion}
 use Rattle.zw_base.specs.Path.{is_path_byte}
 use Rattle.type_form.specs.declared.tree.Ty.{Ty, out-Ty}
@@ -11,17 +11,17 @@ use Rattle.type_form.specs.declared.tree.SimpleTy.{SimpleTy}
 use Rattle.type_form.specs.declared.tree.SimpleTy.TheVariants as simple
 use Rattle.type_form.specs.Tree.{TyLayer}
 use Rattle.type_form.specs.Words.{word_of_simple, simple_of_word}
-use Rattle.type_form.specs.Spelling.{number_text, name_text, commas, behind_commas, in_parens, simple_text, arg_text, decl_text, ty_text, value_text, is_word_byte}
-use Rattle.type_laws.specs.Fit.{Program, IsNumber, IsPath, IsErrorSet, IsFit, IsFitValue, IsFitArg, ty_fits, value_ty}
+use Rattle.type_form.specs.Spelling.{number_text, name_text, commas, behind_commas, simple_text, arg_text, decl_text, ty_text, value_text}
+use Rattle.type_laws.specs.Fit.{Program, IsNumber, IsErrorSet, IsFit, IsFitValue, IsFitArg, ty_fits, value_ty}
 use Rattle.type_laws.proofs.Runs.{stops, is_digit, run_unique, number_unique, number_not, heads, tails, cut}
 use Rattle.type_laws.proofs.Names.{name_unique, name_not}
-use Rattle.type_laws.proofs.Commas.{Goes, Items, AreLike, commas_unique, goes_on}
+use Rattle.type_laws.proofs.Commas.{Items, AreLike, commas_unique, goes_on}
 use Rattle.type_laws.proofs.Shapes.{ty_shape, ty_out, ty_same}
 use Rattle.type_laws.proofs.Parts.{ty_parts, ty_held, ty_here}
 use Rattle.type_laws.proofs.Ends.{Ends, ends_path, ends_digit, ends_word, goes_round, goes_brace}
 use Rattle.type_laws.proofs.Ends.Ends.{nothing, comma, round, equals, brace, square}
 use Rattle.type_laws.proofs.HeadBytes.{kind, kind_of, kind_is, kind_none, kind_some, IsHeadedIn}
-use Rattle.type_laws.proofs.Steps.{Place, AnyTwo}
+use Rattle.type_laws.proofs.Steps.{AnyTwo}
 use Rattle.type_laws.proofs.Steps.Place.{AtDecl}
 use Rattle.type_laws.proofs.Spines.{container_place, container_of, container_is, container_spine, decl_spine, spine_headed, spine_unique}
 
@@ -42,8 +42,9 @@ all_fit (a ∷ xs) = (tt, all_fit xs)
 
 name_items : (n : ℕ) → Items name_text (λ (a : List ℕ). Unit {0}) any_name n 125
 name_items n = record {
-    unique = λ a b x y f g l h s t e. name_unique a b x y (ends_word x (goes_brace x s)) (ends_word y (goes_brace y t)) e;
-    begins = λ a x y f s e. name_not a x y 125 refl e }
+  unique = λ a b x y f g l h s t e. name_unique a b x y (ends_word x (goes_brace x s)) (ends_word y (goes_brace y t)) e;
+  begins = λ a x y f s e. name_not a x y 125 refl e;
+}
 
 no_brace : ◌≡◌ {A = ℕ} 44 125 → ⊥
 no_brace e = omega (arith, e)
@@ -51,7 +52,7 @@ no_brace e = omega (arith, e)
 pub names_unique : (xs ys : List (List ℕ)) (x y : List ℕ) → commas (map name_text xs) ++ 125 ∷ x ≡ commas (map name_text ys) ++ 125 ∷ y → (xs ≡ ys) × (x ≡ y)
 names_unique xs ys x y e =
     commas_unique name_text (λ (a : List ℕ). Unit {0}) any_name (suc (length (commas (map name_text xs)))) 125 (name_items (suc (length (commas (map name_text xs))))) no_brace
-        xs ys x y (all_fit xs) (all_fit ys) (names_alike xs ys) (omega arith) e
+    xs ys x y (all_fit xs) (all_fit ys) (names_alike xs ys) (omega arith) e
 
 -- two layers are one, and so is what stands behind them
 abbrev pub IsSame : TyLayer → TyLayer → List ℕ → List ℕ → Type 0
@@ -109,8 +110,8 @@ simple_unique s t x y e =
 set_names : (xs ys : List (List ℕ)) (x y : List ℕ) → (codes "error{" ++ (commas (map name_text xs) ++ codes "}")) ++ x ≡ (codes "error{" ++ (commas (map name_text ys) ++ codes "}")) ++ y → (xs ≡ ys) × (x ≡ y)
 set_names xs ys x y e =
     names_unique xs ys x y (sym (append_assoc (commas (map name_text xs)) (125 ∷ []) x)
-        ∙ cut (codes "error{") ((commas (map name_text xs) ++ 125 ∷ []) ++ x) ((commas (map name_text ys) ++ 125 ∷ []) ++ y) e
-        ∙ append_assoc (commas (map name_text ys)) (125 ∷ []) y)
+    ∙ cut (codes "error{") ((commas (map name_text xs) ++ 125 ∷ []) ++ x) ((commas (map name_text ys) ++ 125 ∷ []) ++ y) e
+    ∙ append_assoc (commas (map name_text ys)) (125 ∷ []) y)
 
 no_set : ◌≡◌ {A = ℕ} 101 97 → ⊥
 no_set e = omega (arith, e)
@@ -149,7 +150,7 @@ bracket_unique : (m n : ℕ) (z w x y : List ℕ) → IsNumber m → IsNumber n 
     → (91 ∷ (number_text m ++ z)) ++ x ≡ (91 ∷ (number_text n ++ w)) ++ y → (m ≡ n) × (z ++ x ≡ w ++ y)
 bracket_unique m n z w x y f g s t e =
     number_unique m n (z ++ x) (w ++ y) f g s t
-        (sym (append_assoc (number_text m) z x) ∙ tails 91 91 ((number_text m ++ z) ++ x) ((number_text n ++ w) ++ y) e ∙ append_assoc (number_text n) w y)
+    (sym (append_assoc (number_text m) z x) ∙ tails 91 91 ((number_text m ++ z) ++ x) ((number_text n ++ w) ++ y) e ∙ append_assoc (number_text n) w y)
 
 bracket_not : (c : Bool) (n : ℕ) (t w x y : List ℕ) → IsNumber n → ((if c then codes "[]const " else codes "[]") ++ t) ++ x ≡ (91 ∷ (number_text n ++ w)) ++ y → ⊥
 bracket_not true n t w x y f e = number_not n 93 (w ++ y) ((codes "const " ++ t) ++ x) f refl (sym (append_assoc (number_text n) w y) ∙ sym (tails 91 91 (93 ∷ ((codes "const " ++ t) ++ x)) ((number_text n ++ w) ++ y) e))
@@ -168,9 +169,13 @@ int_unique false false m n x y f g a b e = let r = number_unique m n x y f g (en
 int_unique true false m n x y f g a b e = let k = heads 105 117 _ _ e in absurd (omega (arith, k))
 int_unique false true m n x y f g a b e = let k = heads 117 105 _ _ e in absurd (omega (arith, k))
 
--- what is known of all types and values with spellings shorter than n
+-- each type with a spelling shorter than n is read back
+abbrev pub UniqueTypes : Program → ℕ → Type 0
+UniqueTypes p n = (t u : Ty) (x y : List ℕ) → IsFit p t → IsFit p u → length (ty_text t) < n → Ends x → Ends y → ty_text t ++ x ≡ ty_text u ++ y → (t ≡ u) × (x ≡ y)
+
+-- and each value
 pub record Unique (p : Program) (n : ℕ) : Type 0 where
-  pub ty : (t u : Ty) (x y : List ℕ) → IsFit p t → IsFit p u → length (ty_text t) < n → Ends x → Ends y → ty_text t ++ x ≡ ty_text u ++ y → (t ≡ u) × (x ≡ y)
+  pub ty : UniqueTypes p n
   pub value : (v w : Value) (x y : List ℕ) → IsFitValue p v → IsFitValue p w → value_ty v ≡ value_ty w → length (value_text v) < n → Ends x → Ends y
       → value_text v ++ x ≡ value_text w ++ y → (v ≡ w) × (x ≡ y)
 
@@ -198,8 +203,9 @@ module _ (p : Program) where
 module _ (p : Program) (n : ℕ) (known : Unique p n) (items : Items arg_text (IsFitArg p) AnyTwo n 41) where
   ty_items : Items ty_text (IsFit p) AnyTys n 41
   ty_items = record {
-      unique = λ a b x y f g l h s t e. known.ty a b x y f g h (goes_round x s) (goes_round y t) e;
-      begins = λ a x y f s e. ty_not p a x (41 ∷ y) f (goes_round x s) (kind_none y).0 e }
+    unique = λ a b x y f g l h s t e. known.ty a b x y f g h (goes_round x s) (goes_round y t) e;
+    begins = λ a x y f s e. ty_not p a x (41 ∷ y) f (goes_round x s) (kind_none y).0 e;
+  }
 
   pointer_unique : (c d : Bool) (t u : Ty) (x y : List ℕ) → IsFit p t → IsFit p u → length ((if c then codes "*const " else codes "*") ++ ty_text t) < suc n → Ends x → Ends y
       → ((if c then codes "*const " else codes "*") ++ ty_text t) ++ x ≡ ((if d then codes "*const " else codes "*") ++ ty_text u) ++ y → IsSame (layer.Pointer c t) (layer.Pointer d u) x y
@@ -222,7 +228,7 @@ module _ (p : Program) (n : ℕ) (known : Unique p n) (items : Items arg_text (I
   params_unique ps qs r s x y f g k l h a b e =
       let size = length-append (commas (map ty_text ps)) (41 ∷ ty_text r) in
       let front = commas_unique ty_text (IsFit p) AnyTys n 41 ty_items no_paren ps qs (ty_text r ++ x) (ty_text s ++ y) f g (tys_alike ps qs) (omega (arith, h, size))
-          (sym (append_assoc (commas (map ty_text ps)) (41 ∷ ty_text r) x) ∙ cut (codes "fn(") ((commas (map ty_text ps) ++ (41 ∷ ty_text r)) ++ x) ((commas (map ty_text qs) ++ (41 ∷ ty_text s)) ++ y) e ∙ append_assoc (commas (map ty_text qs)) (41 ∷ ty_text s) y) in
+      (sym (append_assoc (commas (map ty_text ps)) (41 ∷ ty_text r) x) ∙ cut (codes "fn(") ((commas (map ty_text ps) ++ (41 ∷ ty_text r)) ++ x) ((commas (map ty_text qs) ++ (41 ∷ ty_text s)) ++ y) e ∙ append_assoc (commas (map ty_text qs)) (41 ∷ ty_text s) y) in
       let back = known.ty r s x y k l (omega (arith, h, size)) a b front.1 in
       (ap (λ z. layer.Ty::Function z r) front.0 ∙ ap (layer.Ty::Function qs) back.0, back.1)
 
@@ -231,7 +237,7 @@ module _ (p : Program) (n : ℕ) (known : Unique p n) (items : Items arg_text (I
   union_unique s q t u x y f g k l h a b e =
       let size = length-append (ty_text s) (33 ∷ ty_text t) in
       let front = set_unique (out-Ty s) (out-Ty q) (33 ∷ (ty_text t ++ x)) (33 ∷ (ty_text u ++ y)) f g
-          (ap (λ z. z ++ 33 ∷ (ty_text t ++ x)) (sym (ty_out s)) ∙ sym (append_assoc (ty_text s) (33 ∷ ty_text t) x) ∙ e ∙ append_assoc (ty_text q) (33 ∷ ty_text u) y ∙ ap (λ z. z ++ 33 ∷ (ty_text u ++ y)) (ty_out q)) in
+      (ap (λ z. z ++ 33 ∷ (ty_text t ++ x)) (sym (ty_out s)) ∙ sym (append_assoc (ty_text s) (33 ∷ ty_text t) x) ∙ e ∙ append_assoc (ty_text q) (33 ∷ ty_text u) y ∙ ap (λ z. z ++ 33 ∷ (ty_text u ++ y)) (ty_out q)) in
       let back = known.ty t u x y k l (omega (arith, h, size)) a b (tails 33 33 _ _ front.1) in
       (ap (λ z. layer.ErrorUnion z t) (ty_same s q front.0) ∙ ap (layer.ErrorUnion q) back.0, back.1)
 
@@ -256,8 +262,8 @@ module _ (p : Program) (n : ℕ) (known : Unique p n) (items : Items arg_text (I
   generic_not [] s x y f e = no_generic (heads 103 41 _ _ e)
   generic_not (q ∷ qs) s x y f e =
       ty_not p q (behind_commas (map ty_text qs) ++ 41 ∷ (ty_text s ++ y)) (codes "generic)" ++ x) f.0
-          (goes_round _ (goes_on ty_text (IsFit p) AnyTys n 41 qs (ty_text s ++ y))) (kind_none x).3
-          (sym (append_assoc (ty_text q) (behind_commas (map ty_text qs)) (41 ∷ (ty_text s ++ y))) ∙ sym e)
+      (goes_round _ (goes_on ty_text (IsFit p) AnyTys n 41 qs (ty_text s ++ y))) (kind_none x).3
+      (sym (append_assoc (ty_text q) (behind_commas (map ty_text qs)) (41 ∷ (ty_text s ++ y))) ∙ sym e)
 
   function_not : (a : SimpleTy) (qs : List Ty) (s : Ty) (x y : List ℕ) → AllByRecursion (IsFit p) qs → simple_text a ++ x ≡ (codes "fn(" ++ (commas (map ty_text qs) ++ (codes ")" ++ ty_text s))) ++ y → ⊥
   function_not a qs s x y f e =
@@ -308,5 +314,5 @@ module _ (p : Program) (n : ℕ) (known : Unique p n) (items : Items arg_text (I
   pub ty_unique : (t u : Ty) (x y : List ℕ) → IsFit p t → IsFit p u → length (ty_text t) < suc n → Ends x → Ends y → ty_text t ++ x ≡ ty_text u ++ y → (t ≡ u) × (x ≡ y)
   ty_unique t u x y f g small a b e =
       let r = layer_unique (out-Ty t) (out-Ty u) x y (sym (ty_kind p t x f a) ∙ ap kind e ∙ ty_kind p u y g b) (ty_here p t f) (ty_here p u g) (ty_held p t f) (ty_held p u g)
-          (subst (λ z. length z < suc n) (ty_out t) small) a b (ap (λ z. z ++ x) (sym (ty_out t)) ∙ e ∙ ap (λ z. z ++ y) (ty_out u)) in
+      (subst (λ z. length z < suc n) (ty_out t) small) a b (ap (λ z. z ++ x) (sym (ty_out t)) ∙ e ∙ ap (λ z. z ++ y) (ty_out u)) in
       (ty_same t u r.0, r.1)
