@@ -11,3 +11,5 @@ pub mod Types
 pub mod ValueHeads
 pub mod Values
 pub mod Whole
+pub mod Builds
+pub mod Pairs

@@ -6,7 +6,8 @@ use Rattle.std.specs.Str.Parse.{AllDigits, digits_value}
 use Rattle.std.proofs.lemmas.Fmt.{decimal_is_IsNumeral_wide}
 use Rattle.std.proofs.lemmas.Str.Parse.{digit_from_value}
 use Rattle.type_form.specs.Spelling.{number_text, int_text, is_word_byte, hex_digit, quoted_byte, quoted}
-use Rattle.type_laws.specs.Fit.{IsNumber, IsInteger}
+use Rattle.type_form.specs.Words.{FitsInt}
+use Rattle.type_laws.specs.Fit.{IsNumber}
 
 pub and_left : (a b : Bool) → (a && b) ≡ true → a ≡ true
 and_left true b e = refl
@@ -113,7 +114,7 @@ pos_fits n h = omega (arith, h)
 neg_fits : (n : ℕ) → n < 2 ^ 127 → IsNumber (suc n)
 neg_fits n h = omega (arith, h)
 
-pub int_unique : (m n : ℤ) (x y : List ℕ) → IsInteger m → IsInteger n → stops is_digit x ≡ true → stops is_digit y ≡ true → int_text m ++ x ≡ int_text n ++ y → (m ≡ n) × (x ≡ y)
+pub int_unique : (m n : ℤ) (x y : List ℕ) → FitsInt m → FitsInt n → stops is_digit x ≡ true → stops is_digit y ≡ true → int_text m ++ x ≡ int_text n ++ y → (m ≡ n) × (x ≡ y)
 int_unique (pos m) (pos n) x y h k s t e =
     let r = number_unique m n x y (pos_fits m h) (pos_fits n k) s t (ap (λ z. z ++ x) (sym (int_pos m)) ∙ e ∙ ap (λ z. z ++ y) (int_pos n)) in
     (ap pos r.0, r.1)
@@ -132,7 +133,7 @@ or_first true b e = refl
 or_first false b e = absurd (true≢false (sym e))
 
 -- an integer begins with a digit or a minus sign
-pub int_head : (z : ℤ) → IsInteger z → (c : ℕ) × (rest : List ℕ) × (int_text z ≡ c ∷ rest) × ((is_digit c || (c == 45)) ≡ true)
+pub int_head : (z : ℤ) → FitsInt z → (c : ℕ) × (rest : List ℕ) × (int_text z ≡ c ∷ rest) × ((is_digit c || (c == 45)) ≡ true)
 int_head (pos n) h = let r = number_head n (pos_fits n h) in (r.0, r.1, int_pos n ∙ r.2, or_first (is_digit r.0) _ r.3)
 int_head (negsuc n) h = (45, number_text (suc n), int_neg n, refl)
 

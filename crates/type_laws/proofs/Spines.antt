@@ -12,11 +12,11 @@ use Rattle.type_form.specs.declared.tree.SimpleTy.TheVariants as simple
 use Rattle.type_form.specs.Tree.{TyLayer, DeclLayer}
 use Rattle.type_form.specs.Spelling.{number_text, name_text, commas, in_parens, arg_text, decl_text, mark_text}
 use Rattle.type_form.proofs.SpellLemmas.{decl_text-Named, decl_text-Comptime, place_text-FileType, mark_text-FileType, place_text-ContainerType, mark_text-ContainerType}
-use Rattle.type_laws.specs.Fit.{Program, IsNumber, IsPath, IsPlace, IsFit, IsFitArg, IsFitDecl, ty_fits, decl_fits}
+use Rattle.type_laws.specs.Fit.{Program, IsNumber, IsPath, IsPlace, IsFit, IsFitArg, IsFitDecl, ty_fits, decl_fits, ty_parts, decl_parts}
 use Rattle.type_laws.proofs.Runs.{run_unique, stops}
 use Rattle.type_laws.proofs.Commas.{Items}
 use Rattle.type_laws.proofs.Shapes.{ty_is, decl_is}
-use Rattle.type_laws.proofs.Parts.{ty_parts, ty_held, ty_here, decl_parts, decl_held, decl_here}
+use Rattle.type_laws.proofs.Parts.{ty_held, ty_here, decl_held, decl_here}
 use Rattle.type_laws.proofs.Ends.{Ends}
 use Rattle.type_laws.proofs.HeadBytes.{IsHeaded}
 use Rattle.type_laws.proofs.Steps.{Step, Place, step_text, steps_text, take_step, take_all, step_fits, steps_unique, AnyTwo}

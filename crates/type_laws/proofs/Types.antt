@@ -12,12 +12,12 @@ use Rattle.type_form.specs.declared.tree.SimpleTy.TheVariants as simple
 use Rattle.type_form.specs.Tree.{TyLayer}
 use Rattle.type_form.specs.Words.{word_of_simple, simple_of_word}
 use Rattle.type_form.specs.Spelling.{number_text, name_text, commas, behind_commas, simple_text, arg_text, decl_text, ty_text, value_text}
-use Rattle.type_laws.specs.Fit.{Program, IsNumber, IsErrorSet, IsFit, IsFitValue, IsFitArg, ty_fits, value_ty}
+use Rattle.type_laws.specs.Fit.{Program, IsNumber, IsErrorSet, IsFit, IsFitValue, IsFitArg, ty_fits, value_ty, ty_parts}
 use Rattle.type_laws.proofs.Runs.{stops, is_digit, run_unique, number_unique, number_not, heads, tails, cut}
 use Rattle.type_laws.proofs.Names.{name_unique, name_not}
 use Rattle.type_laws.proofs.Commas.{Items, AreLike, commas_unique, goes_on}
 use Rattle.type_laws.proofs.Shapes.{ty_shape, ty_out, ty_same}
-use Rattle.type_laws.proofs.Parts.{ty_parts, ty_held, ty_here}
+use Rattle.type_laws.proofs.Parts.{ty_held, ty_here}
 use Rattle.type_laws.proofs.Ends.{Ends, ends_path, ends_digit, ends_word, goes_round, goes_brace}
 use Rattle.type_laws.proofs.Ends.Ends.{nothing, comma, round, equals, brace, square}
 use Rattle.type_laws.proofs.HeadBytes.{kind, kind_of, kind_is, kind_none, kind_some, IsHeadedIn}

@@ -9,12 +9,14 @@ use Rattle.type_form.specs.declared.tree.SimpleTy.{SimpleTy}
 use Rattle.type_form.specs.declared.tree.SimpleTy.TheVariants as simple
 use Rattle.type_form.specs.declared.tree.SimpleValue.{SimpleValue}
 use Rattle.type_form.specs.declared.tree.SimpleValue.TheVariants as known
+use Rattle.type_form.specs.declared.table.Field.{Field}
+use Rattle.type_form.specs.Words.{FitsInt}
 use Rattle.type_form.specs.Tree.{TyLayer, ValueLayer}
 use Rattle.type_form.specs.Spelling.{int_text, name_text, quoted, commas, known_text, decl_text, ty_text, value_text, value_ty_text}
-use Rattle.type_laws.specs.Fit.{Program, IsInteger, IsIntegral, IsNullable, IsTagged, IsFallible, IsAggregate, IsFunctional, IsPointer, IsSlice, IsFit, IsFitValue, IsFitDecl, value_fits, fits_simple, pointer_of, layer_ty, value_ty}
+use Rattle.type_laws.specs.Fit.{Program, IsIntegral, IsNullable, IsTagged, IsFallible, IsArray, fits_parts, IsFunctional, IsPointer, IsSlice, IsFit, IsFitValue, IsFitDecl, value_fits, fits_simple, pointer_of, layer_ty, value_ty, value_parts}
 use Rattle.type_laws.proofs.Runs.{is_digit, int_head}
 use Rattle.type_laws.proofs.Shapes.{value_shape, value_out}
-use Rattle.type_laws.proofs.Parts.{value_parts, value_held, value_here}
+use Rattle.type_laws.proofs.Parts.{value_held, value_here}
 use Rattle.type_laws.proofs.Ends.{Ends}
 use Rattle.type_laws.proofs.HeadBytes.{kind, kind_none, kind_undefined, kind_of_not, place_kind}
 use Rattle.type_laws.proofs.Spines.{decl_spine, spine_headed}
@@ -102,12 +104,12 @@ simple_at known.Undefined t x h e = undefined_at (out-Ty t) x e
 digit_first : (c : ℕ) (x : List ℕ) (b : Bool) → (is_digit c || (c == 45)) ≡ b → b ≡ true → first_kind (c ∷ x) ≡ 2
 digit_first c x b e f = rw (e ∙ f) refl
 
-int_first : (z : ℤ) (x : List ℕ) → IsInteger z → first_kind (int_text z ++ x) ≡ 2
+int_first : (z : ℤ) (x : List ℕ) → FitsInt z → first_kind (int_text z ++ x) ≡ 2
 int_first z x h =
     let r = int_head z h in
     ap (λ w. first_kind (w ++ x)) r.2 ∙ digit_first r.0 (r.1 ++ x) (is_digit r.0 || (r.0 == 45)) refl r.3
 
-int_at : (l : TyLayer) (z : ℤ) (x : List ℕ) → IsIntegral l → IsInteger z → kind_at l (int_text z ++ x) ≡ 2
+int_at : (l : TyLayer) (z : ℤ) (x : List ℕ) → IsIntegral l → FitsInt z → kind_at l (int_text z ++ x) ≡ 2
 int_at (layer.Ty::Int s n) z x h f = int_first z x f
 int_at (layer.Ty::Simple simple.Usize) z x h f = int_first z x f
 int_at (layer.Ty::Simple simple.Isize) z x h f = int_first z x f
@@ -125,11 +127,16 @@ error_at (layer.Ty::Simple simple.AnyError) z x h = refl
 error_at (layer.ErrorUnion e t) z x h = refl
 error_at _ z x h = absurd h
 
-list_at : (l : TyLayer) (z x : List ℕ) → IsAggregate l → (kind_at l ((123 ∷ z) ++ x) ≡ 7) × (kind_at l ((34 ∷ z) ++ x) ≡ 8)
-list_at (layer.Array n t) z x h = (refl, refl)
-list_at (layer.Terminated n) z x h = (refl, refl)
-list_at (layer.Container d n captures) z x h = (refl, refl)
-list_at _ z x h = absurd h
+list_at : (fields : List Field) (vs : List Value) (l : TyLayer) (z x : List ℕ) → fits_parts fields vs l → kind_at l ((123 ∷ z) ++ x) ≡ 7
+list_at fields vs (layer.Array n t) z x h = refl
+list_at fields vs (layer.Terminated n) z x h = refl
+list_at fields vs (layer.Container d n captures) z x h = refl
+list_at fields vs _ z x h = absurd h
+
+text_at : (l : TyLayer) (z x : List ℕ) → IsArray l → kind_at l ((34 ∷ z) ++ x) ≡ 8
+text_at (layer.Array n t) z x h = refl
+text_at (layer.Terminated n) z x h = refl
+text_at _ z x h = absurd h
 
 function_at : (l : TyLayer) (text : List ℕ) → IsFunctional l → kind text ≡ 7 → kind_at l text ≡ 11
 function_at (layer.Ty::Function ps r) text h k = ap (λ n. if n == 0 then undefined_first text else 11) k
@@ -194,11 +201,11 @@ module _ (p : Program) where
   layer_at (layer.Error t name) x f h e = error_at (out-Ty t) (name_text name) x f
   layer_at (layer.Some t v) x f h e = ap (λ l. kind_at l ((63 ∷ value_text v) ++ x)) (ap out-Ty f ∙ optional_out (value_ty v))
   layer_at (layer.Good t v) x f h e = ap (λ l. kind_at l ((33 ∷ value_text v) ++ x)) (ap out-Ty f.1 ∙ union_out f.0 (value_ty v))
-  layer_at (layer.List t vs) x f h e = (list_at (out-Ty t) (commas (map value_text vs) ++ 125 ∷ []) x f.0).0
-  layer_at (layer.Text t bs) x f h e = (list_at (out-Ty t) (quoted bs ++ 34 ∷ []) x f).1
+  layer_at (layer.List t vs) x f h e = list_at (p.fields t).fields vs (out-Ty t) (commas (map value_text vs) ++ 125 ∷ []) x f
+  layer_at (layer.Text t bs) x f h e = text_at (out-Ty t) (quoted bs ++ 34 ∷ []) x f
   layer_at (layer.Tagged t name v) x f h e = tag_at (out-Ty t) _ x f.0
   layer_at (layer.OfType t) x f h e = type_at t x h e
-  layer_at (layer.Value::Function t d) x f h e = function_at (out-Ty t) (decl_text d ++ x) f (decl_kind d x h)
+  layer_at (layer.Value::Function t d) x f h e = function_at (out-Ty t) (decl_text d ++ x) f (decl_kind d x h.1)
   layer_at (layer.Address t d) x f h e = pointer_at (out-Ty t) (decl_text d) x f
   layer_at (layer.Constant t v) x f h e = pointer_at (out-Ty t) (40 ∷ (value_ty_text v ++ (codes "=" ++ (value_text v ++ codes ")")))) x f
   layer_at (layer.Value::Slice t v lo hi) x f h e = slice_value_at t v _ x f.0 f.1

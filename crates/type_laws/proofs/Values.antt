@@ -8,15 +8,16 @@ use Rattle.type_form.specs.declared.tree.Arg.TheOpen as layer
 use Rattle.type_form.specs.declared.tree.Ty.TheVariants as ty
 use Rattle.type_form.specs.declared.tree.SimpleValue.{SimpleValue}
 use Rattle.type_form.specs.declared.tree.SimpleValue.TheVariants as known
-use Rattle.type_form.specs.Tree.{ValueLayer}
+use Rattle.type_form.specs.declared.table.Field.{Field}
+use Rattle.type_form.specs.Tree.{TyLayer, ValueLayer}
 use Rattle.type_form.specs.Words.{word_of_known, known_of_word}
 use Rattle.type_form.specs.Spelling.{number_text, name_text, quoted, commas, known_text, arg_text, decl_text, value_text, value_ty_text}
-use Rattle.type_laws.specs.Fit.{Program, IsFitValue, IsFitArg, IsFitDecl, value_fits, pointer_of, payload_of, parts_of, layer_ty, value_ty}
+use Rattle.type_laws.specs.Fit.{Program, IsFitValue, IsFitArg, IsFitDecl, value_fits, pointer_of, payload_of, fits_parts, layer_ty, value_ty, value_parts}
 use Rattle.type_laws.proofs.Runs.{number_unique, int_unique, quoted_unique, tails, cut}
 use Rattle.type_laws.proofs.Names.{name_unique}
 use Rattle.type_laws.proofs.Commas.{Items, AreLike, commas_unique}
 use Rattle.type_laws.proofs.Shapes.{value_shape, value_out, value_ty_out, value_same}
-use Rattle.type_laws.proofs.Parts.{value_parts, value_held, value_here, value_ty_fit}
+use Rattle.type_laws.proofs.Parts.{value_held, value_here, value_ty_fit}
 use Rattle.type_laws.proofs.Ends.{Ends, ends_digit, ends_word, goes_brace}
 use Rattle.type_laws.proofs.Ends.Ends.{nothing, comma, round, equals, brace, square}
 use Rattle.type_laws.proofs.HeadBytes.{kind, kind_open}
@@ -86,13 +87,24 @@ union_one e f t u h = let g = sym (union_out e t) ∙ ap out-Ty h ∙ union_out 
 abbrev Alike : Value → Value → Type 0
 Alike v w = value_ty v ≡ value_ty w
 
-parts_alike : (vs ws : List Value) → map value_ty vs ≡ map value_ty ws → AreLike Alike vs ws
-parts_alike [] ws e = tt
-parts_alike (v ∷ vs) [] e = tt
-parts_alike (v ∷ vs) (w ∷ ws) e =
+maps_alike : (vs ws : List Value) → map value_ty vs ≡ map value_ty ws → AreLike Alike vs ws
+maps_alike [] ws e = tt
+maps_alike (v ∷ vs) [] e = tt
+maps_alike (v ∷ vs) (w ∷ ws) e =
     let head : value_ty v ≡ value_ty w = cc in
     let rest : map value_ty vs ≡ map value_ty ws = cc in
-    (head, parts_alike vs ws rest)
+    (head, maps_alike vs ws rest)
+
+elements_alike : (t : Ty) (vs ws : List Value) → AllByRecursion (λ v. value_ty v ≡ t) vs → AllByRecursion (λ v. value_ty v ≡ t) ws → AreLike Alike vs ws
+elements_alike t [] ws f g = tt
+elements_alike t (v ∷ vs) [] f g = tt
+elements_alike t (v ∷ vs) (w ∷ ws) f g = (f.0 ∙ sym g.0, elements_alike t vs ws f.1 g.1)
+
+parts_alike : (fields : List Field) (l : TyLayer) (vs ws : List Value) → fits_parts fields vs l → fits_parts fields ws l → AreLike Alike vs ws
+parts_alike fields (layer.Array n t) vs ws f g = elements_alike t vs ws f g
+parts_alike fields (layer.Terminated n) vs ws f g = elements_alike (ty.Int false 8) vs ws f g
+parts_alike fields (layer.Container d n captures) vs ws f g = maps_alike vs ws (f ∙ sym g)
+parts_alike fields _ vs ws f g = absurd f
 
 no_comma : ◌≡◌ {A = ℕ} 44 125 → ⊥
 no_comma e = omega (arith, e)
@@ -160,11 +172,11 @@ module _ (p : Program) (n : ℕ) (known : Unique p n) (types : UniqueTypes p (su
   aim_unique : (l m : ValueLayer) (x y : List ℕ) → IsAddress l → IsAddress m → value_parts p l → value_parts p m → length (value_shape l) ≤ n → Ends x → Ends y
       → value_shape l ++ x ≡ value_shape m ++ y → (aim l ≡ aim m) × (x ≡ y)
   aim_unique (layer.Address t c) (layer.Address u d) x y k l f g small a b e =
-      let r = decl_unique c d x y f g (omega (arith, small)) a b (tails 38 38 _ _ e) in (ap ToDecl r.0, r.1)
-  aim_unique (layer.Address t c) (layer.Constant u w) x y k l f g small a b e = absurd (declaration_not c x _ f (tails 38 38 _ _ e))
-  aim_unique (layer.Constant t v) (layer.Address u d) x y k l f g small a b e = absurd (declaration_not d y _ g (sym (tails 38 38 _ _ e)))
+      let r = decl_unique c d x y f.1 g.1 (omega (arith, small)) a b (tails 38 38 _ _ e) in (ap ToDecl r.0, r.1)
+  aim_unique (layer.Address t c) (layer.Constant u w) x y k l f g small a b e = absurd (declaration_not c x _ f.1 (tails 38 38 _ _ e))
+  aim_unique (layer.Constant t v) (layer.Address u d) x y k l f g small a b e = absurd (declaration_not d y _ g.1 (sym (tails 38 38 _ _ e)))
   aim_unique (layer.Constant t v) (layer.Constant u w) x y k l f g small a b e =
-      let r = typed_unique v w x y f g (omega (arith, small)) a b (cut (codes "&(") _ _ e) in (ap ToValue r.0, r.1)
+      let r = typed_unique v w x y f.1 g.1 (omega (arith, small)) a b (cut (codes "&(") _ _ e) in (ap ToValue r.0, r.1)
   aim_unique (layer.Address t c) _ x y k l f g small a b e = absurd l
   aim_unique (layer.Constant t v) _ x y k l f g small a b e = absurd l
   aim_unique _ _ x y k l f g small a b e = absurd k
@@ -197,7 +209,7 @@ module _ (p : Program) (n : ℕ) (known : Unique p n) (types : UniqueTypes p (su
       → length (value_shape (layer.List t vs)) < suc n → value_shape (layer.List t vs) ++ x ≡ value_shape (layer.List u ws) ++ y → IsSame (layer.List t vs) (layer.List u ws) x y
   list_unique t u vs ws x y te f g h j small e =
       let size = length-append (commas (map value_text vs)) (125 ∷ []) in
-      let alike = parts_alike vs ws (f.1 ∙ ap (λ z. parts_of (p.fields z).fields (out-Ty z)) te ∙ sym g.1) in
+      let alike = parts_alike (p.fields u).fields (out-Ty u) vs ws (subst (λ z. fits_parts (p.fields z).fields vs (out-Ty z)) te f) g in
       let r = commas_unique value_text (IsFitValue p) Alike n 125 value_items no_comma vs ws x y h j alike (omega (arith, small, size))
       (sym (append_assoc (commas (map value_text vs)) (125 ∷ []) x) ∙ tails 123 123 _ _ e ∙ append_assoc (commas (map value_text ws)) (125 ∷ []) y) in
       (ap (λ z. layer.List z vs) te ∙ ap (layer.List u) r.0, r.1)
@@ -235,28 +247,28 @@ module _ (p : Program) (n : ℕ) (known : Unique p n) (types : UniqueTypes p (su
       let r = name_unique c d x y (ends_word x a) (ends_word y b) (tails 46 46 _ _ e) in (ap (λ z. layer.Tag z c) te ∙ ap (layer.Tag u) r.0, r.1)
   layer_unique (layer.Tag t c) (layer.Tagged u d w) x y k te f g h j small a b e = absurd (tag_not c d w x y a e)
   layer_unique (layer.Tagged t c v) (layer.Tag u d) x y k te f g h j small a b e = absurd (tag_not d c v y x b (sym e))
-  layer_unique (layer.Tagged t c v) (layer.Tagged u d w) x y k te f g h j small a b e = tagged_unique t u c d v w x y te f g h j small a b e
+  layer_unique (layer.Tagged t c v) (layer.Tagged u d w) x y k te f g h j small a b e = tagged_unique t u c d v w x y te f g h.1 j.1 small a b e
   layer_unique (layer.Error t c) (layer.Error u d) x y k te f g h j small a b e =
       let r = name_unique c d x y (ends_word x a) (ends_word y b) (cut (codes "error.") _ _ e) in (ap (λ z. layer.Error z c) te ∙ ap (layer.Error u) r.0, r.1)
   layer_unique (layer.Some t v) (layer.Some u w) x y k te f g h j small a b e =
-      let r = known.value v w x y h j (optional_one (value_ty v) (value_ty w) (sym f ∙ te ∙ g)) (omega (arith, small)) a b (tails 63 63 _ _ e) in
+      let r = known.value v w x y h.1 j.1 (optional_one (value_ty v) (value_ty w) (sym f ∙ te ∙ g)) (omega (arith, small)) a b (tails 63 63 _ _ e) in
       (ap (λ z. layer.Some z v) te ∙ ap (layer.Some u) r.0, r.1)
   layer_unique (layer.Good t v) (layer.Good u w) x y k te f g h j small a b e =
-      let r = known.value v w x y h j (union_one f.0 g.0 (value_ty v) (value_ty w) (sym f.1 ∙ te ∙ g.1)) (omega (arith, small)) a b (tails 33 33 _ _ e) in
+      let r = known.value v w x y h.1 j.1 (union_one f.0 g.0 (value_ty v) (value_ty w) (sym f.1 ∙ te ∙ g.1)) (omega (arith, small)) a b (tails 33 33 _ _ e) in
       (ap (λ z. layer.Good z v) te ∙ ap (layer.Good u) r.0, r.1)
-  layer_unique (layer.List t vs) (layer.List u ws) x y k te f g h j small a b e = list_unique t u vs ws x y te f g h j small e
+  layer_unique (layer.List t vs) (layer.List u ws) x y k te f g h j small a b e = list_unique t u vs ws x y te f g h.1 j.1 small e
   layer_unique (layer.Text t c) (layer.Text u d) x y k te f g h j small a b e =
       let r = quoted_unique c d x y (sym (append_assoc (quoted c) (34 ∷ []) x) ∙ tails 34 34 _ _ e ∙ append_assoc (quoted d) (34 ∷ []) y) in
       (ap (λ z. layer.Text z c) te ∙ ap (layer.Text u) r.0, r.1)
   layer_unique (layer.OfType t) (layer.OfType u) x y k te f g h j small a b e =
       let r = types t u x y h j small a b e in (ap layer.OfType r.0, r.1)
   layer_unique (layer.Value::Function t c) (layer.Value::Function u d) x y k te f g h j small a b e =
-      let r = decl_unique c d x y h j (omega (arith, small)) a b e in (ap (λ z. layer.Value::Function z c) te ∙ ap (layer.Value::Function u) r.0, r.1)
+      let r = decl_unique c d x y h.1 j.1 (omega (arith, small)) a b e in (ap (λ z. layer.Value::Function z c) te ∙ ap (layer.Value::Function u) r.0, r.1)
   layer_unique (layer.Address t c) (layer.Address u d) x y k te f g h j small a b e = address_unique (layer.Address t c) (layer.Address u d) x y tt tt te h j (omega (arith, small)) a b e
   layer_unique (layer.Address t c) (layer.Constant u w) x y k te f g h j small a b e = address_unique (layer.Address t c) (layer.Constant u w) x y tt tt te h j (omega (arith, small)) a b e
   layer_unique (layer.Constant t v) (layer.Address u d) x y k te f g h j small a b e = address_unique (layer.Constant t v) (layer.Address u d) x y tt tt te h j (omega (arith, small)) a b e
   layer_unique (layer.Constant t v) (layer.Constant u w) x y k te f g h j small a b e = address_unique (layer.Constant t v) (layer.Constant u w) x y tt tt te h j (omega (arith, small)) a b e
-  layer_unique (layer.Value::Slice t v lo hi) (layer.Value::Slice u w ko ki) x y k te f g h j small a b e = slice_unique t u v w lo hi ko ki x y te f g h j small e
+  layer_unique (layer.Value::Slice t v lo hi) (layer.Value::Slice u w ko ki) x y k te f g h j small a b e = slice_unique t u v w lo hi ko ki x y te f g h.1 j.1 small e
   layer_unique _ _ x y k te f g h j small a b e = absurd (omega (arith, k))
 
   layers_unique : (v w : Value) (x y : List ℕ) → IsFitValue p v → IsFitValue p w → value_ty v ≡ value_ty w → length (value_text v) < suc n → Ends x → Ends y

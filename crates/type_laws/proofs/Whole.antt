@@ -14,13 +14,13 @@ use Rattle.type_form.specs.Tree.{TyLayer, ArgLayer}
 use Rattle.type_form.specs.Spelling.{number_text, in_parens, arg_text, decl_text, ty_text, value_text, value_ty_text, place_text, instance_text, unit_text}
 use Rattle.type_form.proofs.SpellLemmas.{place_text-FileType, place_text-ContainerType}
 use Rattle.type_form.proofs.LengthLemmas.{instance_text-is, unit_text-Decl, unit_text-Body, unit_text-ErrorSet, unit_text-Fields, unit_text-Code, unit_text-Comptime}
-use Rattle.type_laws.specs.Fit.{Program, IsNumber, IsPath, IsPlace, IsFit, IsFitArg, IsFitDecl, IsFitInstance, IsFitUnit, ty_fits, value_ty}
-use Rattle.type_laws.specs.Laws.{EqualTypes, EqualArguments, EqualUnits}
+use Rattle.type_laws.specs.Fit.{Program, IsNumber, IsPath, IsPlace, IsFit, IsFitArg, IsFitDecl, IsFitInstance, IsFitUnit, ty_fits, value_ty, arg_parts, ty_parts}
+use Rattle.type_laws.specs.Laws.{EqualTypes, EqualArguments, EqualUnits, EqualValues, EqualDeclarations, EqualInstances}
 use Rattle.type_laws.proofs.Runs.{run_unique, number_unique, tails, cut}
 use Rattle.type_laws.proofs.Commas.{Goes, Items}
 use Rattle.type_laws.proofs.Commas.Goes.{more, done}
 use Rattle.type_laws.proofs.Shapes.{arg_shape, arg_out, arg_same, value_ty_out, ty_is, ty_same}
-use Rattle.type_laws.proofs.Parts.{arg_parts, arg_held, value_ty_fit, ty_parts, ty_held, ty_here}
+use Rattle.type_laws.proofs.Parts.{arg_held, value_ty_fit, ty_held, ty_here}
 use Rattle.type_laws.proofs.Ends.{Ends, goes_round}
 use Rattle.type_laws.proofs.Ends.Ends.{nothing, equals}
 use Rattle.type_laws.proofs.HeadBytes.{kind_none}
@@ -102,6 +102,9 @@ equal_arguments p a b f g e =
     let n : ℕ = suc (length (arg_text a)) in
     (arg_unique p n (all_unique p n) a b [] [] f g (omega arith) nothing nothing refl refl (ap (λ z. z ++ []) e)).0
 
+pub equal_values : EqualValues
+equal_values p v w f g te e = ((all_unique p (suc (length (value_text v)))).value v w [] [] f g te (omega arith) nothing nothing (ap (λ z. z ++ []) e)).0
+
 module _ (p : Program) where
   place_one : (n : ℕ) (a b : Place) (t u : List ℕ) → Spine p a t → Spine p b u → length t ≤ n → t ≡ u → a ≡ b
   place_one n a b t u s r small e = (spine_unique p n (arg_items p n (all_unique p n)) a b t u [] [] s r small nothing nothing (ap (λ z. z ++ []) e)).0
@@ -168,6 +171,12 @@ module _ (p : Program) where
       let front = run_unique is_path_byte a b (35 ∷ number_text m) (35 ∷ number_text n) f g refl refl e in
       let back = number_unique m n [] [] h k refl refl (ap (λ z. z ++ []) (tails 35 35 _ _ front.1)) in
       (front.0, back.0)
+
+pub equal_declarations : EqualDeclarations
+equal_declarations = decls_equal
+
+pub equal_instances : EqualInstances
+equal_instances = instances_equal
 
 -- units by their first word
 

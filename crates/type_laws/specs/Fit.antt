@@ -1,5 +1,5 @@
 -- Which trees are well formed, as all that analysis makes are, and so have a spelling of their own.
-use Rattle.std.specs.Prelude.{◌≡◌, ℕ, ◌<◌, ◌^◌, true, false, List, [], ◌∷◌, map, replicate, if◌then◌else◌, ℤ, pos, negsuc, Option, Some, None}
+use Rattle.std.specs.Prelude.{◌≡◌, ℕ, ◌<◌, ◌^◌, true, false, List, [], ◌∷◌, map, if◌then◌else◌, Option, Some, None}
 use Rattle.std.specs.List.{list_all, AllByRecursion}
 use Rattle.std.specs.Str.{bytes_eq}
 use Rattle.zw_base.specs.Path.{is_path_byte}
@@ -18,6 +18,7 @@ use Rattle.type_form.specs.declared.table.Fields.{Fields}
 use Rattle.type_form.specs.declared.unit.Instance.{Instance}
 use Rattle.type_form.specs.declared.unit.Unit.{Unit as AnyUnit}
 use Rattle.type_form.specs.declared.unit.Unit.TheVariants as unit
+use Rattle.type_form.specs.Words.{FitsInt}
 use Rattle.type_form.specs.Tree.{TyLayer, ValueLayer, DeclLayer, ArgLayer}
 
 -- what a spelling leaves out, since one program gives it one answer everywhere
@@ -32,11 +33,6 @@ pub record Program : Type 0 where
 -- a number that a field of a tree can hold
 abbrev pub IsNumber : ℕ → Type 0
 IsNumber n = n < 2 ^ 128
-
--- an integer that a field of a tree can hold
-abbrev pub IsInteger : ℤ → Type 0
-IsInteger (pos n) = n < 2 ^ 127
-IsInteger (negsuc n) = n < 2 ^ 127
 
 -- a file's path has letters, digits and `_ . / -`
 abbrev pub IsPath : List ℕ → Type 0
@@ -81,12 +77,11 @@ IsFallible (layer.Ty::Simple simple.AnyError) = Unit {0}
 IsFallible (layer.ErrorUnion e t) = Unit {0}
 IsFallible _ = ⊥
 
--- the types whose values are lists
-abbrev pub IsAggregate : TyLayer → Type 0
-IsAggregate (layer.Array n t) = Unit {0}
-IsAggregate (layer.Terminated n) = Unit {0}
-IsAggregate (layer.Container d n captures) = Unit {0}
-IsAggregate _ = ⊥
+-- the types of texts
+abbrev pub IsArray : TyLayer → Type 0
+IsArray (layer.Array n t) = Unit {0}
+IsArray (layer.Terminated n) = Unit {0}
+IsArray _ = ⊥
 
 -- the types of functions
 abbrev pub IsFunctional : TyLayer → Type 0
@@ -125,11 +120,12 @@ layer_ty (layer.Value::Slice t v lo hi) = t
 unfoldable pub value_ty : Value → Ty
 value_ty v = layer_ty (out-Value v)
 
--- the types of the parts of a value of this type: of its elements, or of its fields
-abbrev pub parts_of : List Field → TyLayer → List Ty
-parts_of fields (layer.Array n t) = replicate n t
-parts_of fields (layer.Terminated n) = replicate n (ty.Int false 8)
-parts_of fields _ = map (λ f. f.ty) fields
+-- the parts of a value of this type: the elements of an array have its type, and the fields of a container theirs
+abbrev pub fits_parts : List Field → List Value → TyLayer → Type 0
+fits_parts fields parts (layer.Array n t) = AllByRecursion (λ v. value_ty v ≡ t) parts
+fits_parts fields parts (layer.Terminated n) = AllByRecursion (λ v. value_ty v ≡ ty.Int false 8) parts
+fits_parts fields parts (layer.Container d n captures) = map value_ty parts ≡ map (λ f. f.ty) fields
+fits_parts fields parts _ = ⊥
 
 -- the type of the payload of a union's member: that of the first field of this name
 abbrev pub payload_of : List ℕ → List Field → Option Ty
@@ -168,13 +164,13 @@ decl_fits (layer.Comptime path n) = IsPath path × IsNumber n
 -- one layer of a value fits its type, as the program has it
 abbrev pub value_fits : Program → ValueLayer → Type 0
 value_fits p (layer.Value::Simple t s) = fits_simple s t
-value_fits p (layer.Value::Int t z) = IsIntegral (out-Ty t) × IsInteger z
+value_fits p (layer.Value::Int t z) = IsIntegral (out-Ty t) × FitsInt z
 value_fits p (layer.Tag t name) = IsTagged (out-Ty t)
 value_fits p (layer.Error t name) = IsFallible (out-Ty t)
 value_fits p (layer.Some t v) = t ≡ ty.Optional (value_ty v)
 value_fits p (layer.Good t v) = (e : Ty) × (t ≡ ty.ErrorUnion e (value_ty v))
-value_fits p (layer.List t vs) = IsAggregate (out-Ty t) × (map value_ty vs ≡ parts_of (p.fields t).fields (out-Ty t))
-value_fits p (layer.Text t bs) = IsAggregate (out-Ty t)
+value_fits p (layer.List t vs) = fits_parts (p.fields t).fields vs (out-Ty t)
+value_fits p (layer.Text t bs) = IsArray (out-Ty t)
 value_fits p (layer.Tagged t name v) = IsTagged (out-Ty t) × (payload_of name (p.fields t).fields ≡ Some (value_ty v))
 value_fits p (layer.OfType t) = Unit {0}
 value_fits p (layer.Value::Function t d) = IsFunctional (out-Ty t)
@@ -201,6 +197,44 @@ IsFitDecl p = every-DeclPath arg_fits decl_fits ty_fits (value_fits p)
 -- an argument in which each layer is
 unfoldable pub IsFitArg : Program → Arg → Type 0
 IsFitArg p = every-Arg arg_fits decl_fits ty_fits (value_fits p)
+
+-- the parts of a layer of a type are fit
+abbrev pub ty_parts : Program → TyLayer → Type 0
+ty_parts p (layer.Pointer c t) = IsFit p t
+ty_parts p (layer.Ty::Slice c t) = IsFit p t
+ty_parts p (layer.Array n t) = IsFit p t
+ty_parts p (layer.Optional t) = IsFit p t
+ty_parts p (layer.ErrorUnion e t) = IsFit p e × IsFit p t
+ty_parts p (layer.Container d n captures) = IsFitDecl p d × AllByRecursion (IsFitArg p) captures
+ty_parts p (layer.Ty::Function ps r) = AllByRecursion (IsFit p) ps × IsFit p r
+ty_parts p _ = Unit {0}
+
+-- of a layer of a path
+abbrev pub decl_parts : Program → DeclLayer → Type 0
+decl_parts p (layer.Named c name) = IsFit p c
+decl_parts p (layer.Comptime path n) = Unit {0}
+
+-- of a layer of a value, its type among them
+abbrev pub value_parts : Program → ValueLayer → Type 0
+value_parts p (layer.Value::Simple t s) = IsFit p t
+value_parts p (layer.Value::Int t z) = IsFit p t
+value_parts p (layer.Tag t name) = IsFit p t
+value_parts p (layer.Error t name) = IsFit p t
+value_parts p (layer.Some t v) = IsFit p t × IsFitValue p v
+value_parts p (layer.Good t v) = IsFit p t × IsFitValue p v
+value_parts p (layer.List t vs) = IsFit p t × AllByRecursion (IsFitValue p) vs
+value_parts p (layer.Text t bs) = IsFit p t
+value_parts p (layer.Tagged t name v) = IsFit p t × IsFitValue p v
+value_parts p (layer.OfType t) = IsFit p t
+value_parts p (layer.Value::Function t d) = IsFit p t × IsFitDecl p d
+value_parts p (layer.Address t d) = IsFit p t × IsFitDecl p d
+value_parts p (layer.Constant t v) = IsFit p t × IsFitValue p v
+value_parts p (layer.Value::Slice t v lo hi) = IsFit p t × IsFitValue p v
+
+-- of an argument
+abbrev pub arg_parts : Program → ArgLayer → Type 0
+arg_parts p (layer.Known v) = IsFitValue p v
+arg_parts p (layer.Typed t) = IsFit p t
 
 -- an instance
 pub record IsFitInstance (p : Program) (n : Instance) : Type 0 where
