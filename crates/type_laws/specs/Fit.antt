@@ -1,4 +1,11 @@
--- Which trees are well formed, as all that analysis makes are, and so have a spelling of their own.
+-- Which trees are well formed, as all that analysis makes are to be, and so have a spelling of their own.
+--
+-- Why a spelling can be read back: the run of path bytes that a type begins with, and the byte behind it, tell its
+-- kind: `?`, `*`, `[`, `@:`, `@` and a word, `error{`, `fn(`, a path before `:`, or a word alone; a set before `!` is
+-- one of two kinds. A declaration is a file's path and then steps, each told by its first byte, `:`, `.`, `#` or `(`.
+-- A value is read where its type is known, which stands before `=` or follows from the whole that it is a part of.
+-- A name, a number or a path is a run, and what stands behind it is none of its bytes. No item of a list begins with
+-- the byte that closes the list.
 use Rattle.std.specs.Prelude.{◌≡◌, ℕ, ◌<◌, ◌^◌, true, false, List, [], ◌∷◌, map, if◌then◌else◌, Option, Some, None}
 use Rattle.std.specs.List.{list_all, AllByRecursion}
 use Rattle.std.specs.Str.{bytes_eq}
