@@ -1,0 +1,15 @@
+pub mod Runs
+pub mod Names
+pub mod Commas
+pub mod Shapes
+pub mod Parts
+pub mod Ends
+pub mod HeadBytes
+pub mod Steps
+pub mod Spines
+pub mod Types
+pub mod ValueHeads
+pub mod Values
+pub mod Whole
+pub mod Builds
+pub mod Pairs

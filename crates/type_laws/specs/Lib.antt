@@ -1,0 +1,3 @@
+pub mod Doubles
+pub mod Fit
+pub mod Laws
