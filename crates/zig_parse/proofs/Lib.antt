@@ -3,3 +3,10 @@ pub mod Steps
 pub mod Slices
 pub mod Tokens
 pub mod Earlier
+pub mod Derived
+pub mod Shapes
+pub mod Tables
+pub mod Balance
+pub mod Ends
+pub mod Begins
+pub mod Unique

@@ -7,3 +7,4 @@ pub mod Surveys
 pub mod Nodes
 pub mod Growth
 pub mod Grows
+pub mod Laws

@@ -1,0 +1,7 @@
+// Laws of the grammar and of the function on lists that the parser computes. They have no code.
+ghost use Rattle.zig_parse.specs.Laws.{OneTree};
+
+/// A list of tokens has at most one tree.
+pub fn one_tree()
+    ensures { OneTree }
+{}
