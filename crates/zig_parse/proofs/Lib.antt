@@ -10,3 +10,10 @@ pub mod Balance
 pub mod Ends
 pub mod Begins
 pub mod Unique
+pub mod TreeTables
+pub mod Spelled
+pub mod Story
+pub mod Picks
+pub mod Standing
+pub mod Closing
+pub mod Sound

@@ -14,6 +14,7 @@ use Rattle.zig_tree.specs.declared.grammar.Part.{Part}
 use Rattle.zig_tree.specs.declared.grammar.Part.TheVariants as part
 use Rattle.zig_tree.specs.Kinds.{has_kind}
 use Rattle.zig_tree.specs.Grammar.{Alternative}
+use Rattle.zig_parse.specs.Threads.{is_never_alone}
 
 -- ---- a token at least
 
@@ -191,3 +192,29 @@ is_statements _ = false
 
 abbrev pub row_bounded : Alternative → Bool
 row_bounded a = is_bounded a.parts
+
+-- ---- rows that come to more than one node
+
+-- whether a part makes a token or a node of its own in the row
+abbrev pub has_piece : List Part → Bool
+has_piece [] = false
+has_piece (part.Token _ ∷ ps) = true
+has_piece (part.OneOf _ ∷ ps) = true
+has_piece (part.Rule _ ∷ ps) = true
+has_piece (part.Group g ∷ ps) = has_piece ps
+
+abbrev pub row_has_piece : Alternative → Bool
+row_has_piece a = has_piece a.parts
+
+-- a prefix of a type, or some of them, before another part
+abbrev pub is_before_more : Part → Bool
+is_before_more (part.Rule r) = is_never_alone r
+is_before_more (part.Group group.MoreTypePrefixes) = true
+is_before_more _ = false
+
+abbrev pub is_led : List Part → Bool
+is_led [] = true
+is_led (p ∷ ps) = (not (is_before_more p) || has_piece ps) && is_led ps
+
+abbrev pub row_led : Alternative → Bool
+row_led a = is_led a.parts

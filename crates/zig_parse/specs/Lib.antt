@@ -8,3 +8,4 @@ pub mod Nodes
 pub mod Growth
 pub mod Grows
 pub mod Laws
+pub mod Trees
