@@ -1,6 +1,6 @@
 -- The innermost node is closed.
-use Rattle.std.proofs.Common.{◌≡◌, ℕ, zero, suc, ◌+◌, ◌-◌, ◌*◌, ◌<◌, ◌≤◌, Bool, true, false, ◌⊎◌, inl, inr, List, [], ◌∷◌, ◌++◌, map, length, drop, take, Option, Some, None, refl, sym, ◌∙◌, ap, subst, arith, append_assoc, append-nil, length-append}
-use Rattle.std.specs.Prelude.{if◌then◌else◌, max, min, slice_get, ◌^◌}
+use Rattle.std.proofs.Common.{◌≡◌, ℕ, ◌+◌, ◌-◌, ◌*◌, ◌<◌, ◌≤◌, Bool, true, false, ◌⊎◌, inl, inr, List, [], ◌∷◌, ◌++◌, length, drop, take, refl, sym, ◌∙◌, ap, subst, arith, append_assoc, append-nil, length-append}
+use Rattle.std.specs.Prelude.{if◌then◌else◌, max, ◌^◌}
 use Rattle.zig_tree.specs.declared.token.Token.{Token}
 use Rattle.zig_tree.specs.declared.grammar.Rule.{Rule}
 use Rattle.zig_tree.specs.declared.grammar.Part.{Part}
@@ -8,13 +8,13 @@ use Rattle.zig_tree.specs.declared.grammar.Part.TheVariants as part
 use Rattle.zig_tree.specs.declared.tree.Kid.{Kid}
 use Rattle.zig_tree.specs.declared.tree.Kid.TheVariants as kid
 use Rattle.zig_tree.specs.declared.tree.Node.{Node}
-use Rattle.zig_tree.specs.GrammarSentences.{Pieces, nothing, node, made}
+use Rattle.zig_tree.specs.GrammarSentences.{Pieces, nothing, made}
 use Rattle.zig_parse.specs.declared.thread.Frame.{Frame}
 use Rattle.zig_parse.specs.declared.thread.Item.{Item}
 use Rattle.zig_parse.specs.declared.thread.Thread.{Thread}
-use Rattle.zig_parse.specs.Threads.{closed, closed_from, gained, item, one_more, part_height, with_part}
+use Rattle.zig_parse.specs.Threads.{closed, closed_from, one_more, part_height, with_part}
 use Rattle.zig_parse.specs.Nodes.{Parts, span_of, with_node}
-use Rattle.zig_parse.specs.Trees.{Spells, spells_nothing, spells_token, spells_node, bytes_from}
+use Rattle.zig_parse.specs.Trees.{Spells, spells_nothing, spells_token, spells_node}
 use Rattle.zig_parse.proofs.Shapes.{count}
 use Rattle.zig_parse.proofs.Spelled.{got_last, spells_more, spells_span, spells_within}
 use Rattle.zig_parse.proofs.Story.{Inside, inside_more, inside_part, inside_some, inside_made, inside_lone}
@@ -60,11 +60,14 @@ shut_solid tokens parts f others own from at depth i k s =
     let n = node_of tokens f.rule parts.nodes own in
     let some = inside_some tokens parts.nodes f from at own depth i in
     record {
-      more = n ∷ []; lone = kid.Node (length parts.nodes) ∷ []; same = cut_as tokens f.rule parts others own f.parts k i.counted;
+      more = n ∷ [];
+      lone = kid.Node (length parts.nodes) ∷ [];
+      same = cut_as tokens f.rule parts others own f.parts k i.counted;
       spelled = subst (Spells tokens (parts.nodes ++ n ∷ []) (kid.Node (length parts.nodes) ∷ []) from at) (sym (inside_made tokens parts.nodes f from at own depth i s))
           (spells_node (length parts.nodes) from at at n [] i.pieces nothing (got_last parts.nodes n) some (spells_span tokens parts.nodes own from at i.pieces i.spelled some)
           (spells_more tokens parts.nodes (n ∷ []) own from at i.pieces i.spelled) (spells_nothing at));
-      one = refl; last = λ e. (refl, refl);
+      one = refl;
+      last = λ e. (refl, refl);
     }
 
 same_parts : (parts : Parts) (others own : List Kid) → parts.kids ≡ others ++ own → parts ≡ record { nodes = parts.nodes ++ []; kids = others ++ own }
@@ -75,9 +78,12 @@ shut_soft : (tokens : List Token) (parts : Parts) (f : Frame) (others own : List
 shut_soft tokens parts f others own from at depth i k s =
     let l = inside_lone tokens parts.nodes f from at own depth i s in
     record {
-      more = []; lone = own; same = same_parts parts others own k;
+      more = [];
+      lone = own;
+      same = same_parts parts others own k;
       spelled = subst (Spells tokens (parts.nodes ++ []) own from at) (sym l.0) (spells_more tokens parts.nodes [] own from at i.pieces i.spelled);
-      one = l.1; last = λ e. absurd (cc);
+      one = l.1;
+      last = λ e. absurd (cc);
     }
 
 shut_by : (tokens : List Token) (parts : Parts) (f : Frame) (others own : List Kid) (from at depth : ℕ) (i : Inside tokens parts.nodes f from at own [] depth) → parts.kids ≡ others ++ own → (s : Bool) → f.solid ≡ s
@@ -133,12 +139,22 @@ close_by tokens at moves t parts after f fs r behind from others own depth withi
     let counted : one_more g.parts ≡ g.parts + 1 = omega (arith, inner.counted) in
     let told : Inside tokens nodes g from2 from own2 (part.Rule f.rule ∷ qs) depth = inside_more tokens parts.nodes s.more g from2 from own2 (part.Rule f.rule ∷ qs) depth (subst (λ (x : Rule). Inside tokens parts.nodes g from2 from own2 (part.Rule x ∷ qs) depth) er inner) in
     let joined : Inside tokens nodes (with_part (part_height f) g) from2 at (own2 ++ s.lone) qs depth =
-        inside_part tokens nodes g f (with_part (part_height f) g) from2 at from own2 own s.lone qs t.depth depth (inside_more tokens parts.nodes s.more f from at own [] t.depth i) s.spelled s.one waits refl refl counted (ap (max g.height) taller) (sym ed) told in
+    inside_part tokens nodes g f (with_part (part_height f) g) from2 at from own2 own s.lone qs t.depth depth (inside_more tokens parts.nodes s.more f from at own [] t.depth i) s.spelled s.one waits refl refl counted (ap (max g.height) taller) (sym ed) told in
     let stands : Standing tokens at moves u whole qs = record {
-      f = with_part (part_height f) g; fs = gs; behind = below; from = from2; others = others2; own = own2 ++ s.lone; depth = depth2;
+      f = with_part (part_height f) g;
+      fs = gs;
+      behind = below;
+      from = from2;
+      others = others2;
+      own = own2 ++ s.lone;
+      depth = depth2;
       outer = outer_more tokens parts.nodes s.more gs g.rule below from2 others2 depth2 o;
       inside = subst (Inside tokens nodes (with_part (part_height f) g) from2 at (own2 ++ s.lone) qs) (sym lower) joined;
-      frames = refl; items = ei ∙ ej; kids = ap (λ (l : List Kid). l ++ s.lone) ek ∙ append_assoc others2 own2 s.lone; deep_as = lower ∙ el; budget = omega (arith, lower, ed, budget);
+      frames = refl;
+      items = ei ∙ ej;
+      kids = ap (λ (l : List Kid). l ++ s.lone) ek ∙ append_assoc others2 own2 s.lone;
+      deep_as = lower ∙ el;
+      budget = omega (arith, lower, ed, budget);
     } in
     (qs, subst (λ (x : Thread). Standing tokens at moves x after qs) (sym (closed_around t f g gs ef)) (subst (λ (x : Parts). Standing tokens at moves u x qs) (sym s.same) stands))
 

@@ -1,8 +1,7 @@
 -- The nodes that the second pass gives hold all tokens, by rules that derive them.
-use Rattle.std.proofs.Common.{◌≡◌, ℕ, zero, suc, ◌+◌, ◌-◌, ◌*◌, ◌<◌, ◌≤◌, Bool, true, false, ◌&&◌, ◌||◌, cond, ◌⊎◌, inl, inr, List, [], ◌∷◌, ◌++◌, map, length, drop, take, Option, Some, None, Result, Ok, Err, refl, sym, ◌∙◌, ap, subst, arith, append-nil, length-append}
-use Rattle.std.specs.Prelude.{if◌then◌else◌, not, max, min, slice_get, nat_lt, nat_eq, ◌^◌, replicate}
+use Rattle.std.proofs.Common.{◌≡◌, ℕ, zero, suc, ◌+◌, ◌<◌, ◌≤◌, Bool, true, false, ◌&&◌, ◌||◌, ◌⊎◌, inl, inr, List, [], ◌∷◌, ◌++◌, map, length, Option, Some, None, Result, Ok, Err, refl, sym, ◌∙◌, ap, subst, arith, length-append}
+use Rattle.std.specs.Prelude.{if◌then◌else◌, not, slice_get, nat_lt, nat_eq, ◌^◌, replicate}
 use Rattle.std.proofs.lemmas.Bool.{le-ltb, eqb-true}
-use Rattle.std.proofs.lemmas.List.{drop_all}
 use Rattle.zig_tree.specs.declared.token.Token.{Token}
 use Rattle.zig_tree.specs.declared.token.TokenKind.{TokenKind}
 use Rattle.zig_tree.specs.declared.token.TokenKind.TheVariants.{End}
@@ -19,7 +18,7 @@ use Rattle.zig_tree.specs.declared.tree.Kid.TheVariants as kid
 use Rattle.zig_tree.specs.declared.tree.Node.{Node}
 use Rattle.zig_tree.specs.Kinds.{has_kind, is_kind}
 use Rattle.zig_tree.specs.Grammar.{Alternative, row, group_rows, rule_rows}
-use Rattle.zig_tree.specs.GrammarSentences.{Pieces, nothing, word, node, made, makes_no_node_alone, open_at, Among, Derives, derives_token, derives_one_of, derives_rule, derives_none, height}
+use Rattle.zig_tree.specs.GrammarSentences.{Pieces, nothing, word, made, makes_no_node_alone, Derives, derives_token, derives_one_of, derives_rule, derives_none, height}
 use Rattle.zig_parse.specs.declared.choice.Look.{Look}
 use Rattle.zig_parse.specs.declared.thread.Frame.{Frame}
 use Rattle.zig_parse.specs.declared.thread.Item.{Item}
@@ -28,19 +27,19 @@ use Rattle.zig_parse.specs.declared.thread.Move.{Move}
 use Rattle.zig_parse.specs.declared.thread.Move.TheVariants as move
 use Rattle.zig_parse.specs.declared.fault.SyntaxFault.{SyntaxFault}
 use Rattle.zig_parse.specs.declared.fault.SyntaxFault.TheVariants.{Unexpected, TooDeep}
-use Rattle.zig_parse.specs.Threads.{after_read, closed, closed_from, collapses, gained, hardened, part_height, is_deep, is_never_alone, item, met, met_from, opened, passed, put, replaced, touched_from, with_gain}
+use Rattle.zig_parse.specs.Threads.{after_read, closed, closed_from, collapses, gained, hardened, part_height, is_deep, is_never_alone, item, met, met_from, opened, passed, put, replaced, touched_from}
 use Rattle.zig_parse.specs.Moves.{move_at, move_from, next_move, reading}
 use Rattle.zig_parse.specs.Choices.{choices, matching}
 use Rattle.zig_parse.specs.Nodes.{Parts, with_node, with_token}
-use Rattle.zig_parse.specs.Passes.{begun, begun_by}
+use Rattle.zig_parse.specs.Passes.{begun}
 use Rattle.zig_parse.specs.Threads.{fresh}
 use Rattle.zig_parse.specs.Surveys.{first_state, kind_of, look_at, surveyed}
-use Rattle.zig_parse.specs.Growth.{Grown, Ready, all_read, all_shut, grown_from, is_second, known, known_by, moved, moved_by, nodes_or, parse_of, picked, read_one, read_where, ready, ready_by, shut, shut_from, sprout, stuck_at, swapped, token_read, whole, with_thread, ◌>>=◌}
+use Rattle.zig_parse.specs.Growth.{Grown, Ready, all_read, all_shut, grown_from, is_second, known, known_by, moved, moved_by, nodes_or, parse_of, picked, read_one, ready, ready_by, shut, shut_from, sprout, stuck_at, swapped, whole, ◌>>=◌}
 use Rattle.zig_parse.specs.Trees.{HoldsAll, Spells, spells_nothing, spells_token, spells_node, kinds_of}
 use Rattle.zig_parse.proofs.Derived.{followed_nothing}
 use Rattle.zig_parse.proofs.Shapes.{count}
 use Rattle.zig_parse.proofs.Tables.{same_kind}
-use Rattle.zig_parse.proofs.Spelled.{here, look_here, token_next, spells_within}
+use Rattle.zig_parse.proofs.Spelled.{here, look_here, token_next}
 use Rattle.zig_parse.proofs.Story.{Inside, left_from, inside_done, inside_some, inside_new, made_height}
 use Rattle.zig_parse.proofs.Picks.{picked_open}
 use Rattle.zig_parse.proofs.Standing.{Outer, at_root, in_node, outer_closes, Standing, fewer, group_step, rule_step, token_step}
@@ -362,7 +361,7 @@ shut_root tokens t parts after f fs r behind from others own depth e at_root er 
     let some = inside_some tokens parts.nodes f 0 (length tokens) own t.depth i in
     let tall = made_height tokens parts.nodes f 0 (length tokens) own t.depth i in
     let all : Derives (part.Rule f.rule ∷ []) (left_from tokens 0) (left_from tokens (length tokens)) (made f.rule i.pieces) =
-        subst (Derives (part.Rule f.rule ∷ []) (left_from tokens 0) (left_from tokens (length tokens))) (followed_nothing (made f.rule i.pieces)) (derives_rule f.rule i.a [] (left_from tokens 0) (left_from tokens (length tokens)) (left_from tokens (length tokens)) i.pieces nothing i.among done (derives_none (left_from tokens (length tokens)))) in
+    subst (Derives (part.Rule f.rule ∷ []) (left_from tokens 0) (left_from tokens (length tokens))) (followed_nothing (made f.rule i.pieces)) (derives_rule f.rule i.a [] (left_from tokens 0) (left_from tokens (length tokens)) (left_from tokens (length tokens)) i.pieces nothing i.among done (derives_none (left_from tokens (length tokens)))) in
     record {
       tree = made f.rule i.pieces;
       spelled = subst (λ (l : List Kid). Spells tokens after.nodes l 0 (length tokens) (made f.rule i.pieces)) lone (subst (λ (l : List Node). Spells tokens l s.lone 0 (length tokens) (made f.rule i.pieces)) (sym nodes_as) s.spelled);
@@ -397,7 +396,7 @@ shut_all zero tokens g root [] fits s e l h =
     let after = if s.f.solid then with_node tokens s.f.rule s.f.parts g.parts else g.parts in
     subst (λ (x : Grown). root + 1 ≡ length x.parts.nodes → HoldsAll tokens x.parts.nodes root) (sym is)
     (λ k. shut_root tokens g.thread g.parts after s.f s.fs s.f.rule s.behind s.from s.others s.own s.depth (omega (arith, ap (λ (x : List Frame). length x) s.frames)) s.outer refl s.inside s.deep_as
-        (shut_parts tokens (length tokens) 0 g.parts s.f s.others s.own s.from g.thread.depth s.inside s.kids) root k) h
+    (shut_parts tokens (length tokens) 0 g.parts s.f s.others s.own s.from g.thread.depth s.inside s.kids) root k) h
 shut_all (suc n) tokens g root [] fits s e l h =
     let is = shut_is tokens g s.f s.fs s.frames in
     let c = close_step tokens (length tokens) 0 g.thread g.parts (omega arith) fits s (omega (arith, ap (λ (x : List Frame). length x) s.frames)) in
@@ -418,8 +417,20 @@ sprout_stands tokens =
     record {
       qs = root_row.parts;
       standing = record {
-        f = f; fs = []; behind = []; from = 0; others = []; own = []; depth = 0; outer = at_root;
-        inside = inside_new tokens [] f 0 root_row 1 (inl refl) refl refl refl; frames = refl; items = refl; kids = refl; deep_as = refl; budget = omega arith;
+        f = f;
+        fs = [];
+        behind = [];
+        from = 0;
+        others = [];
+        own = [];
+        depth = 0;
+        outer = at_root;
+        inside = inside_new tokens [] f 0 root_row 1 (inl refl) refl refl refl;
+        frames = refl;
+        items = refl;
+        kids = refl;
+        deep_as = refl;
+        budget = omega arith;
       };
     }
 

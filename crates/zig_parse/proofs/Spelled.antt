@@ -1,5 +1,5 @@
 -- What nodes in a row spell.
-use Rattle.std.proofs.Common.{◌≡◌, ℕ, zero, suc, ◌+◌, ◌-◌, ◌<◌, ◌≤◌, Bool, true, false, ◌⊎◌, inl, inr, List, [], ◌∷◌, ◌++◌, map, length, drop, Option, Some, None, refl, sym, ◌∙◌, ap, subst, arith}
+use Rattle.std.proofs.Common.{◌≡◌, ℕ, zero, suc, ◌+◌, ◌-◌, ◌<◌, ◌≤◌, inl, inr, List, [], ◌∷◌, ◌++◌, length, drop, Option, Some, refl, sym, ◌∙◌, ap, arith}
 use Rattle.std.specs.Prelude.{slice_get}
 use Rattle.std.proofs.lemmas.Bool.{cases_lt}
 use Rattle.zw_base.specs.declared.diag.Span.{Span}
@@ -10,7 +10,7 @@ use Rattle.zig_tree.specs.declared.tree.Kid.TheVariants as kid
 use Rattle.zig_tree.specs.declared.tree.Node.{Node}
 use Rattle.zig_tree.specs.GrammarSentences.{Pieces, nothing, word, node, followed, next_kind, second_kind}
 use Rattle.zig_parse.specs.declared.choice.Look.{Look}
-use Rattle.zig_parse.specs.Nodes.{joined, node_span, kid_span, span_at, span_of, token_span}
+use Rattle.zig_parse.specs.Nodes.{joined, node_span, span_at, span_of, token_span}
 use Rattle.zig_parse.specs.Surveys.{kind_of, look_at}
 use Rattle.zig_parse.specs.Trees.{Spells, spells_nothing, spells_token, spells_node, bytes_from, kinds_of}
 
@@ -93,7 +93,10 @@ first_begins tokens nodes kids a b p (spells_node number _ next _ n ks inside la
     let first = holds_token tokens nodes n.kids a next inside s a (omega arith) k in
     let last = holds_token tokens nodes n.kids a next inside s (next - 1) (omega arith) (omega arith) in
     record {
-      left = n.span; right = first.0.span; at_left = ap (λ (o : Option Node). node_span o) h; at_right = ap token_span first.1;
+      left = n.span;
+      right = first.0.span;
+      at_left = ap (λ (o : Option Node). node_span o) h;
+      at_right = ap token_span first.1;
       same = ap (λ (x : Span). x.start) (e ∙ bytes_are tokens a next first.0 last.0 first.1 last.1);
     }
 
@@ -138,7 +141,9 @@ last_stops tokens nodes kids a b p (spells_node number _ next _ n ks inside late
           let first = holds_token tokens nodes n.kids a next inside s a (omega arith) k in
           let last = holds_token tokens nodes n.kids a next inside s (next - 1) (omega arith) (omega arith) in
           record {
-            left = n.span; right = last.0.span; at_left = ap (span_at tokens nodes) (last_alone (kid.Node number) ks empty) ∙ ap (λ (o : Option Node). node_span o) h;
+            left = n.span;
+            right = last.0.span;
+            at_left = ap (span_at tokens nodes) (last_alone (kid.Node number) ks empty) ∙ ap (λ (o : Option Node). node_span o) h;
             at_right = ap (λ (m : ℕ). token_span (slice_get tokens (m - 1))) same ∙ ap token_span last.1;
             same = ap (λ (x : Span). x.end) (e ∙ bytes_are tokens a next first.0 last.0 first.1 last.1);
           }
@@ -153,9 +158,9 @@ spells_span tokens nodes kids a b p s l =
     let f = first_begins tokens nodes kids a b p s l in
     let e = last_stops tokens nodes kids a b p s l in
     let left : joined (span_at tokens nodes (slice_get kids 0)) (span_at tokens nodes (slice_get kids (length kids - 1))) ≡ record { start = f.left.start; end = e.left.end } =
-        ap (λ (o : Option Span). joined o (span_at tokens nodes (slice_get kids (length kids - 1)))) f.at_left ∙ ap (joined (Some f.left)) e.at_left in
+    ap (λ (o : Option Span). joined o (span_at tokens nodes (slice_get kids (length kids - 1)))) f.at_left ∙ ap (joined (Some f.left)) e.at_left in
     let right : bytes_from tokens a b ≡ record { start = f.right.start; end = e.right.end } =
-        ap (λ (o : Option Span). joined o (token_span (slice_get tokens (b - 1)))) f.at_right ∙ ap (joined (Some f.right)) e.at_right in
+    ap (λ (o : Option Span). joined o (token_span (slice_get tokens (b - 1)))) f.at_right ∙ ap (joined (Some f.right)) e.at_right in
     let middle : record { start = f.left.start; end = e.left.end } ≡ record { start = f.right.start; end = e.right.end } = span_same f.left.start f.right.start e.left.end e.right.end f.same e.same in
     left ∙ middle ∙ sym right
 

@@ -1,7 +1,7 @@
 -- The state of the second pass: the open nodes from the root to the innermost, with what is to come.
-use Rattle.std.proofs.Common.{◌≡◌, ℕ, zero, suc, ◌+◌, ◌-◌, ◌*◌, ◌<◌, ◌≤◌, Bool, true, false, ◌&&◌, ◌||◌, cond, ◌⊎◌, inl, inr, List, [], ◌∷◌, ◌++◌, map, length, drop, take, Option, Some, None, refl, sym, ◌∙◌, ap, subst, arith, append_assoc, append-nil, length-append}
-use Rattle.std.specs.Prelude.{if◌then◌else◌, not, max, min, slice_get, nat_lt, ◌^◌}
-use Rattle.std.proofs.lemmas.Bool.{and_parts, or_cases, le-ltb, lt-ltb, ltb-false, ltb-true, cases_Bool}
+use Rattle.std.proofs.Common.{◌≡◌, ℕ, suc, ◌+◌, ◌-◌, ◌*◌, ◌<◌, ◌≤◌, Bool, true, false, ◌&&◌, ◌||◌, ◌⊎◌, inl, inr, List, [], ◌∷◌, ◌++◌, map, length, Some, None, refl, sym, ◌∙◌, ap, subst, arith, append_assoc, append-nil}
+use Rattle.std.specs.Prelude.{if◌then◌else◌, not, min, slice_get, nat_lt, ◌^◌}
+use Rattle.std.proofs.lemmas.Bool.{lt-ltb, ltb-false, ltb-true}
 use Rattle.zig_tree.specs.declared.token.Token.{Token}
 use Rattle.zig_tree.specs.declared.token.TokenKind.{TokenKind}
 use Rattle.zig_tree.specs.declared.grammar.Rule.{Rule}
@@ -13,22 +13,20 @@ use Rattle.zig_tree.specs.declared.tree.Kid.{Kid}
 use Rattle.zig_tree.specs.declared.tree.Kid.TheVariants as kid
 use Rattle.zig_tree.specs.declared.tree.Node.{Node}
 use Rattle.zig_tree.specs.Grammar.{Alternative, group_rows, rule_rows}
-use Rattle.zig_tree.specs.GrammarSentences.{Pieces, nothing, word, node, made, makes_no_node_alone, open_at, Among, Derives}
+use Rattle.zig_tree.specs.GrammarSentences.{Pieces, word, makes_no_node_alone, open_at, Among, Derives}
 use Rattle.zig_parse.specs.declared.choice.Look.{Look}
 use Rattle.zig_parse.specs.declared.thread.Frame.{Frame}
 use Rattle.zig_parse.specs.declared.thread.Item.{Item}
 use Rattle.zig_parse.specs.declared.thread.Thread.{Thread}
-use Rattle.zig_parse.specs.declared.thread.Move.{Move}
 use Rattle.zig_parse.specs.declared.thread.Move.TheVariants as move
 use Rattle.zig_parse.specs.Stack.{rest, with_first}
-use Rattle.zig_parse.specs.Threads.{after_read, closed, closed_from, collapses, gained, hardened, is_deep, is_never_alone, item, met, met_from, one_more, opened, part_height, passed, put, replaced, touched_from, with_gain, with_part}
-use Rattle.zig_parse.specs.Moves.{move_at, move_from, next_move}
-use Rattle.zig_parse.specs.Nodes.{Parts, span_of, with_node, with_token}
-use Rattle.zig_parse.specs.Trees.{Spells, spells_nothing, spells_node, bytes_from, kinds_of}
+use Rattle.zig_parse.specs.Threads.{after_read, collapses, gained, hardened, is_deep, is_never_alone, item, met, met_from, one_more, opened, passed, put, replaced, touched_from, with_gain, with_part}
+use Rattle.zig_parse.specs.Moves.{move_from}
+use Rattle.zig_parse.specs.Nodes.{Parts, with_token}
 use Rattle.zig_parse.proofs.Shapes.{count}
 use Rattle.zig_parse.proofs.TreeTables.{same_lone}
-use Rattle.zig_parse.proofs.Spelled.{got_last, spells_more, spells_span, spells_within}
-use Rattle.zig_parse.proofs.Story.{Inside, left_from, inside_more, inside_group, inside_new, inside_hard, inside_token, inside_part, inside_some, inside_made, inside_lone}
+use Rattle.zig_parse.proofs.Spelled.{spells_within}
+use Rattle.zig_parse.proofs.Story.{Inside, left_from, inside_more, inside_group, inside_new, inside_hard, inside_token}
 
 -- ---- the nodes around the innermost one
 
@@ -82,8 +80,20 @@ pub record Standing (tokens : List Token) (at moves : ℕ) (t : Thread) (parts :
 
 pub fewer : (tokens : List Token) (at moves less : ℕ) (t : Thread) (parts : Parts) (qs : List Part) → less ≤ moves → Standing tokens at moves t parts qs → Standing tokens at less t parts qs
 fewer tokens at moves less t parts qs h s = record {
-  f = s.f; fs = s.fs; behind = s.behind; from = s.from; others = s.others; own = s.own; depth = s.depth; outer = s.outer; inside = s.inside; frames = s.frames; items = s.items; kids = s.kids;
-  deep_as = s.deep_as; budget = (let b = s.budget in omega arith);
+  f = s.f;
+  fs = s.fs;
+  behind = s.behind;
+  from = s.from;
+  others = s.others;
+  own = s.own;
+  depth = s.depth;
+  outer = s.outer;
+  inside = s.inside;
+  frames = s.frames;
+  items = s.items;
+  kids = s.kids;
+  deep_as = s.deep_as;
+  budget = (let b = s.budget in omega arith);
 }
 
 -- ---- a group is replaced
@@ -99,10 +109,20 @@ pub group_step : (tokens : List Token) (at moves : ℕ) (t : Thread) (parts : Pa
     → Standing tokens at moves (replaced None b.parts t) parts (b.parts ++ qs)
 unfolding replaced put
 group_step tokens at moves t parts g qs b m s = record {
-  f = s.f; fs = s.fs; behind = s.behind; from = s.from; others = s.others; own = s.own; depth = s.depth; outer = s.outer;
-  inside = inside_group tokens parts.nodes s.f s.from at s.own g b qs t.depth m s.inside; frames = s.frames;
+  f = s.f;
+  fs = s.fs;
+  behind = s.behind;
+  from = s.from;
+  others = s.others;
+  own = s.own;
+  depth = s.depth;
+  outer = s.outer;
+  inside = inside_group tokens parts.nodes s.f s.from at s.own g b qs t.depth m s.inside;
+  frames = s.frames;
   items = ap (λ (l : List Frame). map (item (length l)) b.parts ++ rest t.items) s.frames ∙ ap (λ (l : List Item). map (item (suc (length s.fs))) b.parts ++ l) (rest_as t (part.Group g) qs (suc (length s.fs)) s.behind s.items) ∙ map_joined (suc (length s.fs)) b.parts qs s.behind;
-  kids = s.kids; deep_as = s.deep_as; budget = (let b = s.budget in omega arith);
+  kids = s.kids;
+  deep_as = s.deep_as;
+  budget = (let b = s.budget in omega arith);
 }
 
 -- ---- a rule is replaced
@@ -137,8 +157,20 @@ one_more_is n h = omega arith
 
 met_soft : (tokens : List Token) (at moves : ℕ) (t : Thread) (parts : Parts) (r : Rule) (qs : List Part) (s : Standing tokens at (suc moves) t parts (part.Rule r ∷ qs)) → (s.f.solid ≡ false → s.f.parts ≡ 0) → Met tokens at (passed t) parts r qs
 met_soft tokens at moves t parts r qs s w = record {
-  f = s.f; fs = s.fs; behind = s.behind; from = s.from; others = s.others; own = s.own; depth = s.depth; outer = s.outer; inside = s.inside;
-  waits = λ e. sym s.inside.counted ∙ w e; frames = s.frames; items = rest_as t (part.Rule r) qs (suc (length s.fs)) s.behind s.items; kids = s.kids; deep_as = s.deep_as;
+  f = s.f;
+  fs = s.fs;
+  behind = s.behind;
+  from = s.from;
+  others = s.others;
+  own = s.own;
+  depth = s.depth;
+  outer = s.outer;
+  inside = s.inside;
+  waits = λ e. sym s.inside.counted ∙ w e;
+  frames = s.frames;
+  items = rest_as t (part.Rule r) qs (suc (length s.fs)) s.behind s.items;
+  kids = s.kids;
+  deep_as = s.deep_as;
 }
 
 deeper_as : (depth deeper below : ℕ) (solid : Bool) → solid ≡ false → deeper ≡ depth + 1 → depth ≡ below + count solid → deeper ≡ below + 1
@@ -153,9 +185,19 @@ met_hard tokens at moves t parts r qs s soft some shallow =
     let deeper : one_more t.depth ≡ t.depth + 1 = one_more_is t.depth (omega arith) in
     let low = shallow_deep (one_more t.depth) s.f.height (or_false t.deep (is_deep (one_more t.depth) s.f.height) shallow).1 in
     record {
-      f = record s.f { solid = true }; fs = s.fs; behind = s.behind; from = s.from; others = s.others; own = s.own; depth = s.depth; outer = s.outer;
+      f = record s.f { solid = true };
+      fs = s.fs;
+      behind = s.behind;
+      from = s.from;
+      others = s.others;
+      own = s.own;
+      depth = s.depth;
+      outer = s.outer;
       inside = inside_hard tokens parts.nodes s.f s.from at s.own r qs t.depth (one_more t.depth) some low s.inside;
-      waits = λ e. absurd (cc); frames = ap (with_first (record s.f { solid = true })) s.frames; items = rest_as t (part.Rule r) qs (suc (length s.fs)) s.behind s.items; kids = s.kids;
+      waits = λ e. absurd (cc);
+      frames = ap (with_first (record s.f { solid = true })) s.frames;
+      items = rest_as t (part.Rule r) qs (suc (length s.fs)) s.behind s.items;
+      kids = s.kids;
       deep_as = deeper_as t.depth (one_more t.depth) s.depth s.f.solid soft deeper s.deep_as;
     }
 
@@ -197,7 +239,13 @@ open_standing tokens at moves u parts r qs b m h s =
     let f : Frame = record { rule = r; parts = 0; height = 0; solid = not (collapses r) } in
     let solid : not (collapses r) ≡ not (makes_no_node_alone r) = ap not (same_lone r) in
     record {
-      f = f; fs = s.f ∷ s.fs; behind = u.items; from = at; others = parts.kids; own = []; depth = u.depth;
+      f = f;
+      fs = s.f ∷ s.fs;
+      behind = u.items;
+      from = at;
+      others = parts.kids;
+      own = [];
+      depth = u.depth;
       outer = in_node s.f s.fs r qs s.behind u.items s.from at s.others s.own parts.kids s.depth u.depth s.outer s.inside s.waits s.items s.kids s.deep_as;
       inside = inside_new tokens parts.nodes f at b (if collapses r then u.depth else one_more u.depth) m solid refl refl;
       frames = ap (λ (l : List Frame). f ∷ l) s.frames;
@@ -236,11 +284,20 @@ read_standing tokens at moves t u parts q k qs s within fits reads there ef ei e
     let have = spells_within tokens parts.nodes s.own s.from at s.inside.pieces s.inside.spelled in
     let parts_as : one_more s.f.parts ≡ s.f.parts + 1 = omega (arith, s.inside.counted) in
     record {
-      f = touched s.f; fs = s.fs; behind = s.behind; from = s.from; others = s.others; own = s.own ++ kid.Token at ∷ []; depth = s.depth; outer = s.outer;
+      f = touched s.f;
+      fs = s.fs;
+      behind = s.behind;
+      from = s.from;
+      others = s.others;
+      own = s.own ++ kid.Token at ∷ [];
+      depth = s.depth;
+      outer = s.outer;
       inside = inside_token tokens parts.nodes s.f s.from at s.own q k qs t.depth u.depth (touched s.f) reads there refl refl parts_as (omega arith) (omega arith) s.inside;
-      frames = ef; items = ei ∙ rest_as t q qs (suc (length s.fs)) s.behind s.items;
+      frames = ef;
+      items = ei ∙ rest_as t q qs (suc (length s.fs)) s.behind s.items;
       kids = ap (λ (l : List Kid). l ++ kid.Token at ∷ []) s.kids ∙ append_assoc s.others s.own (kid.Token at ∷ []);
-      deep_as = ed; budget = omega arith;
+      deep_as = ed;
+      budget = omega arith;
     }
 
 token_by : (tokens : List Token) (at moves : ℕ) (t : Thread) (parts : Parts) (q : Part) (k : Token) (qs : List Part) (solid : Bool) (s : Standing tokens at moves t parts (q ∷ qs)) → at < length tokens → length tokens < 2 ^ 32

@@ -1,14 +1,12 @@
 -- What was read so far, with what is to come, derives: in the innermost node and in those around it.
-use Rattle.std.proofs.Common.{◌≡◌, ℕ, zero, suc, ◌+◌, ◌-◌, ◌*◌, ◌<◌, ◌≤◌, Bool, true, false, ◌&&◌, ◌||◌, cond, ◌⊎◌, inl, inr, List, [], ◌∷◌, ◌++◌, map, length, drop, take, Option, Some, None, refl, sym, ◌∙◌, ap, subst, arith, append_assoc, append-nil, length-append, length-drop}
-use Rattle.std.specs.Prelude.{if◌then◌else◌, not, max, min, slice_get}
-use Rattle.std.proofs.lemmas.Bool.{and_parts, and_from, or_cases, not-true, ltb-false}
+use Rattle.std.proofs.Common.{◌≡◌, ℕ, ◌+◌, ◌<◌, ◌≤◌, Bool, true, false, ◌&&◌, ◌||◌, ◌⊎◌, inl, inr, List, [], ◌∷◌, ◌++◌, length, drop, Some, refl, sym, ◌∙◌, ap, subst, arith, length-append, length-drop}
+use Rattle.std.specs.Prelude.{if◌then◌else◌, not, max, slice_get}
+use Rattle.std.proofs.lemmas.Bool.{and_parts, and_from, not-true}
 use Rattle.zig_tree.specs.declared.token.Token.{Token}
 use Rattle.zig_tree.specs.declared.token.TokenKind.{TokenKind}
 use Rattle.zig_tree.specs.declared.grammar.Rule.{Rule}
-use Rattle.zig_tree.specs.declared.grammar.Rule.TheVariants as rule
 use Rattle.zig_tree.specs.declared.grammar.Group.{Group}
 use Rattle.zig_tree.specs.declared.grammar.Group.TheVariants as group
-use Rattle.zig_tree.specs.declared.grammar.TokenClass.{TokenClass}
 use Rattle.zig_tree.specs.declared.grammar.Part.{Part}
 use Rattle.zig_tree.specs.declared.grammar.Part.TheVariants as part
 use Rattle.zig_tree.specs.declared.tree.Kid.{Kid}
@@ -17,12 +15,11 @@ use Rattle.zig_tree.specs.declared.tree.Node.{Node}
 use Rattle.zig_tree.specs.Grammar.{Alternative, group_rows, rule_rows}
 use Rattle.zig_tree.specs.GrammarSentences.{Pieces, nothing, word, node, followed, makes_no_node_alone, is_one_node, made, open_at, Among, Derives, derives_none, derives_token, derives_one_of, derives_group, derives_rule, height}
 use Rattle.zig_parse.specs.declared.thread.Frame.{Frame}
-use Rattle.zig_parse.specs.declared.thread.Item.{Item}
-use Rattle.zig_parse.specs.Threads.{is_deep, is_never_alone, item}
+use Rattle.zig_parse.specs.Threads.{is_never_alone}
 use Rattle.zig_parse.specs.Trees.{Spells, spells_nothing, spells_token, spells_node, kinds_of}
 use Rattle.zig_parse.proofs.Derived.{followed_nothing, followed_twice, split_derived, open_is_row, row_tested}
 use Rattle.zig_parse.proofs.Balance.{reads_some}
-use Rattle.zig_parse.proofs.Shapes.{count, fills, row_fills, has_piece, row_has_piece, is_before_more, is_led, row_led}
+use Rattle.zig_parse.proofs.Shapes.{count, row_fills, has_piece, row_has_piece, is_before_more, is_led, row_led}
 use Rattle.zig_parse.proofs.Tables.{rule_filled}
 use Rattle.zig_parse.proofs.TreeTables.{lone_filled, rule_led, group_led}
 use Rattle.zig_parse.proofs.Spelled.{amount, spells_more, spells_joined, spells_amount, spells_within}
@@ -153,8 +150,17 @@ pub record Inside (tokens : List Token) (nodes : List Node) (f : Frame) (from at
 
 unfoldable pub inside_more : (tokens : List Token) (nodes more : List Node) (f : Frame) (from at : ℕ) (own : List Kid) (qs : List Part) (depth : ℕ) → Inside tokens nodes f from at own qs depth → Inside tokens (nodes ++ more) f from at own qs depth
 inside_more tokens nodes more f from at own qs depth i = record {
-  a = i.a; among = i.among; pieces = i.pieces; goes_on = i.goes_on; solid = i.solid; alone = i.alone; spelled = spells_more tokens nodes more own from at i.pieces i.spelled;
-  counted = i.counted; low = i.low; shallow = i.shallow; led = i.led;
+  a = i.a;
+  among = i.among;
+  pieces = i.pieces;
+  goes_on = i.goes_on;
+  solid = i.solid;
+  alone = i.alone;
+  spelled = spells_more tokens nodes more own from at i.pieces i.spelled;
+  counted = i.counted;
+  low = i.low;
+  shallow = i.shallow;
+  led = i.led;
 }
 
 -- a group is replaced by an alternative of it
@@ -162,11 +168,20 @@ pub inside_group : (tokens : List Token) (nodes : List Node) (f : Frame) (from a
     → Among b (open_at (left_from tokens at) (group_rows g)) → Inside tokens nodes f from at own (part.Group g ∷ qs) depth → Inside tokens nodes f from at own (b.parts ++ qs) depth
 inside_group tokens nodes f from at own g b qs depth m i =
     let back : (end : List TokenKind) (later : Pieces) → Derives (b.parts ++ qs) (left_from tokens at) end later → Derives (part.Group g ∷ qs) (left_from tokens at) end later =
-        λ end later d. (let s = split_derived b.parts qs (left_from tokens at) end later d in
-          subst (Derives (part.Group g ∷ qs) (left_from tokens at) end) (sym s.3) (derives_group g b qs (left_from tokens at) s.0 end s.1 s.2 m s.4 s.5)) in
+    λ end later d. (let s = split_derived b.parts qs (left_from tokens at) end later d in
+    subst (Derives (part.Group g ∷ qs) (left_from tokens at) end) (sym s.3) (derives_group g b qs (left_from tokens at) s.0 end s.1 s.2 m s.4 s.5)) in
     record {
-      a = i.a; among = i.among; pieces = i.pieces; goes_on = λ end later d. i.goes_on end later (back end later d); solid = λ h end later d. i.solid h end later (back end later d); alone = i.alone; spelled = i.spelled;
-      counted = i.counted; low = i.low; shallow = i.shallow; led = group_keeps_led g b qs (open_is_row (left_from tokens at) b (group_rows g) m) i.led;
+      a = i.a;
+      among = i.among;
+      pieces = i.pieces;
+      goes_on = λ end later d. i.goes_on end later (back end later d);
+      solid = λ h end later d. i.solid h end later (back end later d);
+      alone = i.alone;
+      spelled = i.spelled;
+      counted = i.counted;
+      low = i.low;
+      shallow = i.shallow;
+      led = group_keeps_led g b qs (open_is_row (left_from tokens at) b (group_rows g) m) i.led;
     }
 
 not_false : (x : Bool) → not x ≡ false → x ≡ true
@@ -177,10 +192,17 @@ not_false false h = absurd (cc)
 pub inside_new : (tokens : List Token) (nodes : List Node) (f : Frame) (at : ℕ) (b : Alternative) (depth : ℕ) → Among b (open_at (left_from tokens at) (rule_rows f.rule)) → f.solid ≡ not (makes_no_node_alone f.rule) → f.parts ≡ 0 → f.height ≡ 0
     → Inside tokens nodes f at at [] b.parts depth
 inside_new tokens nodes f at b depth m s p h = record {
-  a = b; among = m; pieces = nothing; goes_on = λ end later d. d;
+  a = b;
+  among = m;
+  pieces = nothing;
+  goes_on = λ end later d. d;
   solid = λ t end later d. made_always f.rule later (not-true (makes_no_node_alone f.rule) (sym s ∙ t));
   alone = λ t. (not_false (makes_no_node_alone f.rule) (sym s ∙ t), inl refl);
-  spelled = spells_nothing at; counted = p; low = omega arith; shallow = inl (refl, h); led = row_tested row_led b (rule_rows f.rule) (rule_led f.rule) (open_is_row (left_from tokens at) b (rule_rows f.rule) m);
+  spelled = spells_nothing at;
+  counted = p;
+  low = omega arith;
+  shallow = inl (refl, h);
+  led = row_tested row_led b (rule_rows f.rule) (rule_led f.rule) (open_is_row (left_from tokens at) b (rule_rows f.rule) m);
 }
 
 rule_and_more : (r : Rule) (qs : List Part) (tokens rest : List TokenKind) (p : Pieces) → Derives (part.Rule r ∷ qs) tokens rest p → has_piece qs ≡ true → 2 ≤ amount p
@@ -201,9 +223,17 @@ begun_amount tokens nodes f from at own r qs depth i (inr more) end later d =
 pub inside_hard : (tokens : List Token) (nodes : List Node) (f : Frame) (from at : ℕ) (own : List Kid) (r : Rule) (qs : List Part) (depth deeper : ℕ) → (0 < f.parts) ⊎ (is_never_alone r ≡ true) → deeper + f.height ≤ 200
     → Inside tokens nodes f from at own (part.Rule r ∷ qs) depth → Inside tokens nodes (record f { solid = true }) from at own (part.Rule r ∷ qs) deeper
 inside_hard tokens nodes f from at own r qs depth deeper some l i = record {
-  a = i.a; among = i.among; pieces = i.pieces; goes_on = i.goes_on;
+  a = i.a;
+  among = i.among;
+  pieces = i.pieces;
+  goes_on = i.goes_on;
   solid = λ h end later d. made_several f.rule (followed i.pieces later) (begun_amount tokens nodes f from at own r qs depth i some end later d);
-  alone = λ h. absurd (cc); spelled = i.spelled; counted = i.counted; low = i.low; shallow = inr l; led = i.led;
+  alone = λ h. absurd (cc);
+  spelled = i.spelled;
+  counted = i.counted;
+  low = i.low;
+  shallow = inr l;
+  led = i.led;
 }
 
 -- a token is read
@@ -214,11 +244,17 @@ pub inside_token : (tokens : List Token) (nodes : List Node) (f : Frame) (from a
 inside_token tokens nodes f from at own q t qs depth deeper more reads there r s p h l i =
     let pieces = followed i.pieces (word t.kind nothing) in
     record {
-      a = i.a; among = subst (λ (x : Rule). Among i.a (open_at (left_from tokens from) (rule_rows x))) (sym r) i.among; pieces = pieces;
+      a = i.a;
+      among = subst (λ (x : Rule). Among i.a (open_at (left_from tokens from) (rule_rows x))) (sym r) i.among;
+      pieces = pieces;
       goes_on = λ end later d. subst (Derives i.a.parts (left_from tokens from) end) (sym (followed_twice i.pieces (word t.kind nothing) later)) (i.goes_on end (word t.kind later) (reads end later d));
       solid = λ e end later d. made_several more.rule (followed pieces later) (subst (λ (x : Pieces). is_one_node x ≡ false) (sym (followed_twice i.pieces (word t.kind nothing) later)) (worded i.pieces later t.kind));
-      alone = λ e. absurd (cc); spelled = spells_joined tokens nodes own (kid.Token at ∷ []) from at (at + 1) i.pieces (word t.kind nothing) i.spelled (spells_token at (at + 1) t [] nothing there (spells_nothing (at + 1)));
-      counted = omega (arith, i.counted, length-append own (kid.Token at ∷ [])); low = omega (arith, i.low, height_followed i.pieces (word t.kind nothing)); shallow = inr l; led = led_rest q qs i.led;
+      alone = λ e. absurd (cc);
+      spelled = spells_joined tokens nodes own (kid.Token at ∷ []) from at (at + 1) i.pieces (word t.kind nothing) i.spelled (spells_token at (at + 1) t [] nothing there (spells_nothing (at + 1)));
+      counted = omega (arith, i.counted, length-append own (kid.Token at ∷ []));
+      low = omega (arith, i.low, height_followed i.pieces (word t.kind nothing));
+      shallow = inr l;
+      led = led_rest q qs i.led;
     }
 
 -- ---- a node is closed
@@ -280,16 +316,20 @@ inside_part tokens nodes f g more from at at0 own others lone qs depth depth0 i 
     let inner = made g.rule i.pieces in
     let pieces = followed o.pieces inner in
     let back : (end : List TokenKind) (later : Pieces) → Derives qs (left_from tokens at) end later → Derives (part.Rule g.rule ∷ qs) (left_from tokens at0) end (followed inner later) =
-        λ end later d. derives_rule g.rule i.a qs (left_from tokens at0) (left_from tokens at) end i.pieces later i.among (inside_done tokens nodes g at0 at others depth i) d in
+    λ end later d. derives_rule g.rule i.a qs (left_from tokens at0) (left_from tokens at) end i.pieces later i.among (inside_done tokens nodes g at0 at others depth i) d in
     let some = inside_some tokens nodes g at0 at others depth i in
     let within = spells_within tokens nodes others at0 at i.pieces i.spelled in
     let tall = made_height tokens nodes g at0 at others depth i in
     record {
-      a = o.a; among = subst (λ (x : Rule). Among o.a (open_at (left_from tokens from) (rule_rows x))) (sym r) o.among; pieces = pieces;
+      a = o.a;
+      among = subst (λ (x : Rule). Among o.a (open_at (left_from tokens from) (rule_rows x))) (sym r) o.among;
+      pieces = pieces;
       goes_on = λ end later d. subst (Derives o.a.parts (left_from tokens from) end) (sym (followed_twice o.pieces inner later)) (o.goes_on end (followed inner later) (back end later d));
       solid = λ e end later d. subst (λ (x : Rule). made x (followed pieces later) ≡ node x (followed pieces later) nothing) (sym r) (subst (λ (x : Pieces). made f.rule x ≡ node f.rule x nothing) (sym (followed_twice o.pieces inner later)) (o.solid (sym t ∙ e) end (followed inner later) (back end later d)));
       alone = λ e. (subst (λ (x : Rule). makes_no_node_alone x ≡ true) (sym r) (o.alone (sym t ∙ e)).0, inr (lone_piece tokens nodes own from at0 o.pieces inner o.spelled (waits (sym t ∙ e)) (made_one g.rule i.pieces)));
       spelled = spells_joined tokens nodes own lone from at0 at o.pieces inner o.spelled s;
-      counted = omega (arith, o.counted, length-append own lone); low = omega (arith, o.low, tall, height_followed o.pieces inner);
-      shallow = inr (shallow_part f.height g.height more.height (length own) (length others) depth0 depth (count g.solid) h l o.shallow i.shallow (not_nothing tokens nodes others at0 at i.pieces i.spelled some)); led = led_rest (part.Rule g.rule) qs o.led;
+      counted = omega (arith, o.counted, length-append own lone);
+      low = omega (arith, o.low, tall, height_followed o.pieces inner);
+      shallow = inr (shallow_part f.height g.height more.height (length own) (length others) depth0 depth (count g.solid) h l o.shallow i.shallow (not_nothing tokens nodes others at0 at i.pieces i.spelled some));
+      led = led_rest (part.Rule g.rule) qs o.led;
     }

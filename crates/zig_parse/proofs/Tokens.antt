@@ -1,9 +1,7 @@
 -- One token more of a pass.
-use Rattle.std.proofs.Common.{◌≡◌, ℕ, zero, suc, ◌+◌, ◌-◌, ◌<◌, ◌≤◌, Bool, true, false, ◌≢◌, List, [], ◌∷◌, Option, Some, None, length, refl, sym, ◌∙◌, ap, arith, Result, Ok, Err}
-use Rattle.std.specs.Prelude.{if◌then◌else◌}
+use Rattle.std.proofs.Common.{◌≡◌, ℕ, suc, ◌+◌, ◌-◌, ◌<◌, ◌≤◌, Bool, false, List, Some, None, refl, sym, ◌∙◌, ap, arith, Ok, Err}
 use Rattle.zig_tree.specs.declared.token.Token.{Token}
 use Rattle.zig_parse.specs.declared.choice.Look.{Look}
-use Rattle.zig_parse.specs.declared.thread.Frame.{Frame}
 use Rattle.zig_parse.specs.Growth.{Grown, Ready, all_read, all_shut, is_second, known, moved, read_one, ready, ready_by, shut, ◌>>=◌}
 use Rattle.zig_parse.specs.declared.state.State.{State}
 use Rattle.zig_parse.specs.declared.fault.SyntaxFault.{SyntaxFault}
