@@ -17,3 +17,4 @@ pub mod Picks
 pub mod Standing
 pub mod Closing
 pub mod Sound
+pub mod Refusals

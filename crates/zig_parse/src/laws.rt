@@ -1,5 +1,5 @@
 // Laws of the grammar and of the function on lists that the parser computes. They have no code.
-ghost use Rattle.zig_parse.specs.Laws.{OneTree, ReadsTree};
+ghost use Rattle.zig_parse.specs.Laws.{NeverBoth, OneReason, OneRefusal, OneTree, ReadsTree};
 
 /// A list of tokens has at most one tree.
 pub fn one_tree()
@@ -9,4 +9,11 @@ pub fn one_tree()
 /// The nodes of `parse_of` hold all tokens, by rules that derive them.
 pub fn tree_is_derived()
     ensures { ReadsTree }
+{}
+
+/// A list of tokens has at most one answer: it is accepted, or refused at one token for one reason.
+pub fn one_answer()
+    ensures apart { NeverBoth }
+    ensures token { OneRefusal }
+    ensures reason { OneReason }
 {}
