@@ -1,10 +1,8 @@
 -- One token more of a pass.
-use Rattle.std.proofs.Common.{◌≡◌, ℕ, zero, suc, ◌+◌, ◌-◌, ◌<◌, ◌≤◌, Bool, true, false, ◌≢◌, List, [], ◌∷◌, Option, Some, None, length, refl, sym, ◌∙◌, ap, arith, Result, Ok, Err}
-use Rattle.std.specs.Prelude.{if◌then◌else◌}
+use Rattle.std.proofs.Common.{◌≡◌, ℕ, suc, ◌+◌, ◌-◌, ◌<◌, ◌≤◌, Bool, false, List, Some, None, refl, sym, ◌∙◌, ap, arith, Ok, Err}
 use Rattle.zig_tree.specs.declared.token.Token.{Token}
 use Rattle.zig_parse.specs.declared.choice.Look.{Look}
-use Rattle.zig_parse.specs.declared.thread.Frame.{Frame}
-use Rattle.zig_parse.specs.Growth.{Grown, Ready, all_read, all_shut, is_empty, is_second, known, moved, read_one, ready, ready_by, shut, ◌>>=◌}
+use Rattle.zig_parse.specs.Growth.{Grown, Ready, all_read, all_shut, is_second, known, moved, read_one, ready, ready_by, shut, ◌>>=◌}
 use Rattle.zig_parse.specs.declared.state.State.{State}
 use Rattle.zig_parse.specs.declared.fault.SyntaxFault.{SyntaxFault}
 use Rattle.zig_parse.specs.Surveys.{judged, look_at, next_marks, next_state, next_verdict, surveyed}
@@ -47,7 +45,7 @@ ready_zero tokens look second g = refl
 pub ruleset ready_steps = (ready_known, ready_more, ready_zero)
 
 -- all nodes are closed, one node earlier
-all_shut_suc : (n : ℕ) (tokens : List Token) (g : Grown) → all_shut (suc n) tokens g ≡ (if is_empty g.thread.frames then g else all_shut n tokens (shut tokens g))
+all_shut_suc : (n : ℕ) (tokens : List Token) (g : Grown) → all_shut (suc n) tokens g ≡ all_shut n tokens (shut tokens g)
 unfolding all_shut
 all_shut_suc n tokens g = refl
 
@@ -55,24 +53,10 @@ pub all_shut_zero : (tokens : List Token) (g : Grown) → all_shut 0 tokens g �
 unfolding all_shut
 all_shut_zero tokens g = refl
 
-empty_none : (fs : List Frame) → length fs ≡ 0 → is_empty fs ≡ true
-empty_none [] e = refl
-empty_none (f ∷ fs) e = absurd (omega arith)
+pub all_shut_more : (n i : ℕ) (tokens : List Token) (g : Grown) → i < n → all_shut (n - i) tokens g ≡ all_shut (n - (i + 1)) tokens (shut tokens g)
+all_shut_more n i tokens g h = let same : n - i ≡ suc (n - (i + 1)) = omega arith in ap (λ (k : ℕ). all_shut k tokens g) same ∙ all_shut_suc (n - (i + 1)) tokens g
 
-empty_some : (fs : List Frame) → 0 < length fs → is_empty fs ≡ false
-empty_some [] e = absurd (omega arith)
-empty_some (f ∷ fs) e = refl
-
-pub all_shut_done : (n : ℕ) (tokens : List Token) (g : Grown) → length g.thread.frames ≡ 0 → all_shut n tokens g ≡ g
-all_shut_done zero tokens g e = all_shut_zero tokens g
-all_shut_done (suc n) tokens g e = rw (all_shut_suc n tokens g, empty_none g.thread.frames e) refl
-
-pub all_shut_more : (n : ℕ) (tokens : List Token) (g : Grown) → 0 < n → 0 < length g.thread.frames → all_shut n tokens g ≡ all_shut (n - 1) tokens (shut tokens g)
-all_shut_more n tokens g h e =
-    let same : n ≡ suc (n - 1) = omega arith in
-    ap (λ (k : ℕ). all_shut k tokens g) same ∙ rw (all_shut_suc (n - 1) tokens g, empty_some g.thread.frames e) refl
-
-pub ruleset shut_steps = (all_shut_zero, all_shut_done, all_shut_more)
+pub ruleset shut_steps = (all_shut_zero, all_shut_more)
 
 -- all tokens are read, one token later
 all_read_suc : (n at : ℕ) (tokens : List Token) (marks : List Bool) (g : Grown)

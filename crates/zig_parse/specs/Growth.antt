@@ -1,5 +1,5 @@
 -- The second pass: one way to read the tokens, and its tree.
-use Rattle.std.specs.Prelude.{ℕ, zero, suc, ◌+◌, Bool, true, false, List, [], ◌∷◌, length, slice_get, Option, Some, None, Result, Ok, Err, unwrap_or, replicate, if◌then◌else◌}
+use Rattle.std.specs.Prelude.{ℕ, zero, suc, ◌+◌, nat_eq, Bool, true, false, List, [], ◌∷◌, length, slice_get, Option, Some, None, Result, Ok, Err, unwrap_or, replicate, if◌then◌else◌}
 use Rattle.std.specs.Borrow.{Bor}
 use Rattle.zig_tree.specs.declared.token.Token.{Token}
 use Rattle.zig_tree.specs.declared.token.TokenKind.TheVariants.{End}
@@ -121,14 +121,10 @@ unfoldable pub all_read : ℕ → ℕ → List Token → List Bool → Grown →
 all_read zero at tokens marks g = Ok g
 all_read (suc n) at tokens marks g = read_one at tokens (look_at tokens at) (is_second marks at) g >>= all_read n (at + 1) tokens marks
 
--- all open nodes are closed, at most so many
-abbrev pub is_empty : List Frame → Bool
-is_empty [] = true
-is_empty (f ∷ fs) = false
-
+-- so many open nodes are closed
 unfoldable pub all_shut : ℕ → List Token → Grown → Grown
 all_shut zero tokens g = g
-all_shut (suc n) tokens g = if is_empty g.thread.frames then g else all_shut n tokens (shut tokens g)
+all_shut (suc n) tokens g = all_shut n tokens (shut tokens g)
 
 -- before the first token
 unfoldable pub sprout : Look → Grown
@@ -139,9 +135,13 @@ abbrev pub nodes_or : ℕ → List Node → Result (List Node) SyntaxFault
 nodes_or at [] = Err (Unexpected End at)
 nodes_or at (n ∷ ns) = Ok (n ∷ ns)
 
+-- all open nodes are closed, where nothing is to come
+unfoldable pub whole : ℕ → List Token → Grown → Result (List Node) SyntaxFault
+whole at tokens g = if nat_eq (length g.thread.items) 0 then nodes_or at (all_shut (length g.thread.frames) tokens g).parts.nodes else Err (Unexpected End at)
+
 -- the nodes of the tree, where these alternatives are taken
 unfoldable pub grown_from : List Token → List Bool → Result (List Node) SyntaxFault
-grown_from tokens marks = all_read (length tokens) 0 tokens marks (sprout (look_at tokens 0)) >>= λ g. nodes_or (length tokens) (all_shut 10000000 tokens g).parts.nodes
+grown_from tokens marks = all_read (length tokens) 0 tokens marks (sprout (look_at tokens 0)) >>= λ g. whole (length tokens) tokens g
 
 -- the nodes of the tree of some tokens, the root last, or why there is none: the first pass finds which
 -- alternatives are taken, the second takes them

@@ -7,3 +7,5 @@ pub mod Surveys
 pub mod Nodes
 pub mod Growth
 pub mod Grows
+pub mod Laws
+pub mod Trees

@@ -1,5 +1,5 @@
 -- Nodes that are closed, and what the open ones have so far.
-use Rattle.std.specs.Prelude.{ℕ, ◌+◌, ◌-◌, List, [], ◌∷◌, ◌++◌, length, take, drop, slice_get, Option, Some, None, option_map}
+use Rattle.std.specs.Prelude.{ℕ, ◌-◌, List, [], ◌∷◌, ◌++◌, length, take, drop, slice_get, Option, Some, None}
 use Rattle.zw_base.specs.declared.diag.Span.{Span}
 use Rattle.zig_tree.specs.declared.token.Token.{Token}
 use Rattle.zig_tree.specs.declared.grammar.Rule.{Rule}

@@ -1,5 +1,5 @@
 -- The first pass over tokens: every way to read them, until one way is left or none.
-use Rattle.std.specs.Prelude.{ℕ, Bool, true, false, ◌&&◌, ◌||◌, nat_eq, min, List, [], ◌∷◌, ◌++◌, map, length, slice_set, Option, Some, None, is_some, if◌then◌else◌}
+use Rattle.std.specs.Prelude.{ℕ, Bool, true, false, ◌&&◌, ◌||◌, nat_eq, min, List, [], ◌∷◌, ◌++◌, length, slice_set, Option, Some, None, is_some, if◌then◌else◌}
 use Rattle.zig_tree.specs.declared.token.TokenKind.TheVariants.{RightBrace}
 use Rattle.zig_tree.specs.declared.grammar.Rule.{Rule}
 use Rattle.zig_tree.specs.declared.grammar.Rule.TheVariants as rule
@@ -11,10 +11,9 @@ use Rattle.zig_parse.specs.declared.thread.Thread.{Thread}
 use Rattle.zig_parse.specs.declared.survey.Finished.{Finished}
 use Rattle.zig_parse.specs.declared.survey.Verdict.{Verdict}
 use Rattle.zig_parse.specs.declared.survey.Verdict.TheVariants as verdict
-use Rattle.zig_parse.specs.Stack.{rest}
 use Rattle.zig_parse.specs.Choices.{choices}
 use Rattle.zig_parse.specs.Threads.{after_read, fresh, met, opened, put, received, risen}
-use Rattle.zig_parse.specs.Moves.{same_future, settled, waits_for}
+use Rattle.zig_parse.specs.Moves.{same_future, waits_for}
 
 -- the thread that reads what a rule derives, from the parts of the one alternative that is taken
 abbrev pub begun_by : List (List Part) → Thread → Thread

@@ -141,12 +141,10 @@ impl Growth {
     /// Closes all nodes that are open.
     #[tactic(auto, using(crate::proofs::Tokens::shut_steps))]
     fn close_all(&mut self, tokens: &[Token]) -> Result<(), AllocError>
-        ensures { OnOk result (grown self.new ≡ spec.all_shut MOVES tokens.now (grown self.old)) }
+        ensures { OnOk result (grown self.new ≡ spec.all_shut (length self.old.thread.frames) tokens.now (grown self.old)) }
     {
-        for _ in 0..MOVES {
-            if self.thread.frames.len() == 0 {
-                break;
-            }
+        let count = self.thread.frames.len();
+        for _ in 0..count {
             self.close(tokens)?;
         }
         Ok(())
@@ -209,6 +207,23 @@ fn tree_of(built: Built, at: u32) -> Result<Tree, SyntaxFault>
     })
 }
 
+/// The tree of what was read, where nothing is to come.
+#[tactic(auto, unfolding(crate::specs::Growth::whole))]
+fn finish(mut growth: Growth, tokens: &[Token], count: u32) -> Result<Tree, SyntaxFault>
+    ensures nodes { Gives (λ t. t.nodes) result (spec.whole count tokens.now (grown growth)) }
+    ensures root { IfOk result (λ t. t.root + 1 ≡ length t.nodes) }
+{
+    if growth.thread.items.len() != 0 {
+        return Err(SyntaxFault::Unexpected {
+            token: TokenKind::End,
+            at: count,
+        });
+    }
+    growth.close_all(tokens)?;
+    let Growth { thread: _, built } = growth;
+    tree_of(built, count)
+}
+
 /// The tree of the tokens, where these alternatives are taken.
 #[tactic(auto, unfolding(crate::specs::Growth::grown_from))]
 pub fn grow(
@@ -223,7 +238,5 @@ pub fn grow(
 {
     let mut growth = sprout(alloc, look_at(tokens, 0))?;
     read_all(&mut growth, tokens, count, chosen)?;
-    growth.close_all(tokens)?;
-    let Growth { thread: _, built } = growth;
-    tree_of(built, count)
+    finish(growth, tokens, count)
 }

@@ -11,6 +11,7 @@ mod built;
 mod choice;
 mod fault;
 mod grow;
+mod laws;
 mod parser;
 mod settle;
 mod stack;
@@ -19,6 +20,7 @@ mod survey;
 mod thread;
 
 pub use fault::SyntaxFault;
+pub use laws::{one_answer, one_tree, tree_is_derived};
 pub use parser::parse;
 
 #[cfg(test)]

@@ -2,6 +2,7 @@
 ghost use Rattle.std.specs.Prelude.{◌≡◌, ◌+◌, IfOk, length};
 ghost use Rattle.zig_parse.specs.Growth.{parse_of};
 ghost use Rattle.zig_parse.specs.Surveys.{Gives};
+ghost use Rattle.zig_parse.specs.Trees.{HoldsAll};
 
 use crate::fault::SyntaxFault;
 use crate::grow::grow;
@@ -11,11 +12,13 @@ use zig_tree::{Token, Tree};
 
 /// The tree of a file's tokens (Zig Language Reference 0.14, "Grammar"), or why there is none: the
 /// answer is that of the function `parse_of` on lists, unless memory runs out. The list is to end with
-/// the token of the file's end and to have it nowhere else; of others the answer says nothing of use.
+/// the token of the file's end and to have it nowhere else; another list has no tree.
 #[tactic(auto, unfolding(crate::specs::Growth::parse_of))]
 pub fn parse(alloc: Global, tokens: &[Token]) -> Result<Tree, SyntaxFault>
     ensures nodes { Gives (λ t. t.nodes) result (parse_of tokens.now) }
     ensures root { IfOk result (λ t. t.root + 1 ≡ length t.nodes) }
+    // The root holds all tokens, each once and in order, by rules that derive them, no deeper than 200.
+    ensures tree { IfOk result (λ t. HoldsAll tokens.now t.nodes t.root) }
 {
     let Ok(count) = u32::try_from(tokens.len()) else {
         return Err(SyntaxFault::OutOfMemory);

@@ -1,4 +1,4 @@
-use Rattle.std.proofs.Common.{◌≡◌, sym, ◌∙◌, arith, ap, map}
+use Rattle.std.proofs.Common.{sym, ◌∙◌, arith, ap, map}
 use Rattle.zig_tree.specs.Productions.{alternative}
 use Rattle.zig_parse.proofs.Steps.{matching_here, matching_end, left_whole}
 use Rattle.zig_parse.proofs.choice.matching.Goals as goal

@@ -1,4 +1,3 @@
-use Rattle.std.proofs.Common.{arith}
 use Rattle.zig_parse.proofs.Steps.{settled_go, settled_out, settled_none}
 use Rattle.zig_parse.proofs.settle.settle.Goals as goal
 use Rattle.zig_parse.proofs.settle.settle.Goals.{else-loop-test, then-loop-test+in_default}

@@ -1,4 +1,4 @@
-use Rattle.std.proofs.Common.{◌≡◌, sym, ◌∙◌, true, false, Some}
+use Rattle.std.proofs.Common.{◌≡◌, sym, ◌∙◌, true, false}
 use Rattle.std.specs.Prelude.{is_some}
 use Rattle.zig_parse.specs.Moves.{waits_for}
 use Rattle.zig_parse.proofs.Slices.{any_here, any_next}

@@ -1,4 +1,4 @@
-use Rattle.std.proofs.Common.{◌≡◌, sym, ◌∙◌, arith}
+use Rattle.std.proofs.Common.{sym, ◌∙◌, arith}
 use Rattle.zig_parse.proofs.Steps.{same_done}
 use Rattle.zig_parse.proofs.thread.same_items.Goals as goal
 

@@ -1,5 +1,5 @@
 use Rattle.zig_parse.proofs.Tokens.{all_shut_out}
 use Rattle.zig_parse.proofs.grow.Growth.close_all.Goals as goal
 
-pub returns-after-loop : goal.returns-after-loop
-returns-after-loop c = all_shut_out _ _ _ _ _ c.loop-test.false c.loop.invariant
+pub returns : goal.returns
+returns c = all_shut_out _ _ _ _ _ c.loop-test.false c.loop.invariant

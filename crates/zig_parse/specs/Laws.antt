@@ -1,0 +1,27 @@
+-- What holds of the grammar, and of the function on lists that the parser computes.
+use Rattle.std.specs.Prelude.{◌≡◌, ◌+◌, ◌<◌, ◌^◌, ℕ, List, length, Ok}
+use Rattle.zig_tree.specs.declared.token.TokenKind.{TokenKind}
+use Rattle.zig_tree.specs.declared.token.Token.{Token}
+use Rattle.zig_tree.specs.declared.tree.Node.{Node}
+use Rattle.zig_tree.specs.GrammarSentences.{Pieces, Sentence, Accepted, IsRefused, IsUnexpected, IsTooDeep}
+use Rattle.zig_parse.specs.Growth.{parse_of}
+use Rattle.zig_parse.specs.Trees.{HoldsAll}
+
+-- a list of tokens has at most one tree
+abbrev pub OneTree : Type 0
+OneTree = (tokens : List TokenKind) (x y : Pieces) → Sentence tokens x → Sentence tokens y → x ≡ y
+
+-- where the function on lists gives nodes, the last of them holds all tokens, if their numbers fit
+abbrev pub ReadsTree : Type 0
+ReadsTree = (tokens : List Token) (nodes : List Node) (root : ℕ) → length tokens < 2 ^ 32 → parse_of tokens ≡ Ok nodes → root + 1 ≡ length nodes → HoldsAll tokens nodes root
+
+-- what is accepted is refused at no token
+abbrev pub NeverBoth : Type 0
+NeverBoth = (tokens : List TokenKind) (tree : Pieces) (at : ℕ) → Accepted tokens tree → IsRefused tokens at → ⊥
+
+-- what is refused is so at one token, and for one reason
+abbrev pub OneRefusal : Type 0
+OneRefusal = (tokens : List TokenKind) (a b : ℕ) → IsRefused tokens a → IsRefused tokens b → a ≡ b
+
+abbrev pub OneReason : Type 0
+OneReason = (tokens : List TokenKind) (a b : ℕ) → IsUnexpected tokens a → IsTooDeep tokens b → ⊥

@@ -1,0 +1,37 @@
+-- What the nodes of a tree say: which tokens they hold, in which rows of the grammar.
+use Rattle.std.specs.Prelude.{◌≡◌, ℕ, ◌+◌, ◌-◌, ◌<◌, ◌≤◌, List, [], ◌∷◌, map, length, slice_get, Some}
+use Rattle.zw_base.specs.declared.diag.Span.{Span}
+use Rattle.zig_tree.specs.declared.token.Token.{Token}
+use Rattle.zig_tree.specs.declared.token.TokenKind.{TokenKind}
+use Rattle.zig_tree.specs.declared.grammar.Rule.TheVariants as rule
+use Rattle.zig_tree.specs.declared.grammar.Part.TheVariants as part
+use Rattle.zig_tree.specs.declared.tree.Kid.{Kid}
+use Rattle.zig_tree.specs.declared.tree.Kid.TheVariants as kid
+use Rattle.zig_tree.specs.declared.tree.Node.{Node}
+use Rattle.zig_tree.specs.GrammarSentences.{Pieces, nothing, word, node, Derives, height}
+use Rattle.zig_parse.specs.Nodes.{joined, token_span}
+
+-- the kinds of tokens
+abbrev pub kinds_of : List Token → List TokenKind
+kinds_of tokens = map (λ (t : Token). t.kind) tokens
+
+-- the bytes from one token to the one before another
+abbrev pub bytes_from : List Token → ℕ → ℕ → Span
+bytes_from tokens first next = joined (token_span (slice_get tokens first)) (token_span (slice_get tokens (next - 1)))
+
+-- What nodes hold in a row is the tokens from one number up to another, each of them once and in order,
+-- with these pieces. A node has a token at least, and lies from its first one to its last.
+pub data Spells (tokens : List Token) (nodes : List Node) : List Kid → ℕ → ℕ → Pieces → Type 0 where
+  spells_nothing : (at : ℕ) → Spells tokens nodes [] at at nothing
+  spells_token : (at end : ℕ) (t : Token) (kids : List Kid) (later : Pieces) → slice_get tokens at ≡ Some t → Spells tokens nodes kids (at + 1) end later
+      → Spells tokens nodes (kid.Token at ∷ kids) at end (word t.kind later)
+  spells_node : (number at next end : ℕ) (n : Node) (kids : List Kid) (inside later : Pieces) → slice_get nodes number ≡ Some n → at < next → n.span ≡ bytes_from tokens at next
+      → Spells tokens nodes n.kids at next inside → Spells tokens nodes kids next end later
+      → Spells tokens nodes (kid.Node number ∷ kids) at end (node n.rule inside later)
+
+-- a node holds all tokens, by rules that derive them, no deeper than 200 nodes
+pub record HoldsAll (tokens : List Token) (nodes : List Node) (root : ℕ) : Type 0 where
+  pub tree : Pieces
+  pub spelled : Spells tokens nodes (kid.Node root ∷ []) 0 (length tokens) tree
+  pub derived : Derives (part.Rule rule.Root ∷ []) (kinds_of tokens) [] tree
+  pub low : height tree ≤ 200

@@ -1,0 +1,19 @@
+// Laws of the grammar and of the function on lists that the parser computes. They have no code.
+ghost use Rattle.zig_parse.specs.Laws.{NeverBoth, OneReason, OneRefusal, OneTree, ReadsTree};
+
+/// A list of tokens has at most one tree.
+pub fn one_tree()
+    ensures { OneTree }
+{}
+
+/// The nodes of `parse_of` hold all tokens, by rules that derive them.
+pub fn tree_is_derived()
+    ensures { ReadsTree }
+{}
+
+/// A list of tokens has at most one answer: it is accepted, or refused at one token for one reason.
+pub fn one_answer()
+    ensures apart { NeverBoth }
+    ensures token { OneRefusal }
+    ensures reason { OneReason }
+{}
