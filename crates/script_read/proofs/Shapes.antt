@@ -14,19 +14,14 @@ use Rattle.script_read.specs.declared.command.Request.TheVariants as request
 use Rattle.script_read.specs.declared.command.Refusal.{Refusal}
 use Rattle.script_read.specs.declared.command.Refusal.TheVariants.{End, Bad}
 use Rattle.script_read.specs.Answers.{◌>>=◌}
-use Rattle.script_read.specs.Line.{is_line_end, line_at, line_ends}
+use Rattle.script_read.specs.Line.{is_line_end, HasNoEnd, IsParted, line_at, line_ends}
 use Rattle.script_read.specs.Script.{content_at, completed, judged, next_of}
 use Rattle.script_read.specs.Sizes.{Sizes}
 use Rattle.script_read.specs.Reads.{lines_of}
-use Rattle.script_read.proofs.Lines.{HasNoEnd, neither}
-
--- a list that is parted at an LF: what stands before it has none
-pub record IsParted (bytes front rest : List ℕ) : Type 0 where
-  pub whole : bytes ≡ front ++ 10 ∷ rest
-  pub none : HasNoEnd front
+use Rattle.script_read.proofs.Lines.{neither}
 
 -- two answers with pairs
-ok_parts : {A B : Type 0} (x y : A × B) (r s : Result (A × B) Refusal) → r ≡ Ok x → s ≡ Ok y → r ≡ s → (x.0 ≡ y.0) × (x.1 ≡ y.1)
+pub ok_parts : {A B : Type 0} (x y : A × B) (r s : Result (A × B) Refusal) → r ≡ Ok x → s ≡ Ok y → r ≡ s → (x.0 ≡ y.0) × (x.1 ≡ y.1)
 ok_parts x y r s e f h = let p : x ≡ y = cc in (ap (λ z. z.0) p, ap (λ z. z.1) p)
 
 first_yes : (b : ℕ) (bs : List ℕ) → is_line_end b ≡ true → position_or_len is_line_end (b ∷ bs) ≡ 0

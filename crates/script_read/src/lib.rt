@@ -10,12 +10,14 @@
 
 mod allow;
 mod command;
+mod laws;
 mod line;
 mod reader;
 mod reading;
 mod steps;
 
 pub use command::{Command, Limits, Next};
+pub use laws::bytes_have_one_meaning;
 pub use reader::ScriptReader;
 
 #[cfg(test)]
