@@ -13,9 +13,9 @@ use Rattle.script_read.specs.declared.command.Refusal.TheVariants as refusal
 use Rattle.script_read.specs.declared.command.Request.{Request}
 use Rattle.script_read.specs.declared.command.Request.TheVariants as request
 use Rattle.script_read.specs.Answers.{◌>>=◌}
-use Rattle.script_read.specs.Line.{is_line_end, HasNoEnd, IsParted, line_at}
+use Rattle.script_read.specs.Line.{is_line_end, HasNoEnd, IsParted, line_at, line_ends}
 use Rattle.script_read.specs.ReaderState.{ReaderState}
-use Rattle.script_read.specs.Reads.{Answers}
+use Rattle.script_read.specs.Reads.{Answers, lines_of}
 use Rattle.script_read.specs.Script.{completed, judged, next_of}
 use Rattle.script_read.specs.Sizes.{Sizes, allowed}
 use Rattle.script_read.specs.Words.{request_of}
@@ -26,6 +26,7 @@ use Rattle.script_read.proofs.Contents.{content_found}
 use Rattle.script_read.proofs.Fields.{path_has_no_end, numeral_has_no_end}
 use Rattle.script_read.proofs.Firsts.{Stage, stage_then, none_first, one_first}
 use Rattle.script_read.proofs.Requests.{word_causes, asks_once}
+use Rattle.script_read.proofs.Shapes.{no_line_ends, line_ends_behind}
 use Rattle.script_read.proofs.Stages.{LineStage, line_causes, size_causes, content_causes, parted_once, line_first, words_stage, sizes_stage, contents_stage, Completes}
 
 -- the bytes are a sentence of a command, and then the rest
@@ -208,6 +209,19 @@ means_computed limits commands files bytes r h = one_meaning limits commands fil
 
 pub computed_is_meant : (limits : Limits) (commands : ℕ) (files : Sizes) (bytes : List ℕ) (r : Meaning) → next_of limits commands files bytes ≡ r → Means limits commands files bytes r
 computed_is_meant limits commands files bytes r e = rw e at (computed_means limits commands files bytes)
+
+-- ---- the lines of a sentence
+
+behind_ends : (given : Command) → line_ends (behind_line given) + 1 ≡ lines_of given
+behind_ends (command.File path bytes) = omega (arith, line_ends_behind bytes [])
+behind_ends (command.Drop path) = refl
+behind_ends command.Update = refl
+
+-- a command's text has as many LF bytes as the reader's line number grows by
+pub sentence_ends : (given : Command) (text : List ℕ) → IsSentence given text → line_ends text ≡ lines_of given
+sentence_ends given text h =
+    let plain : line_ends (line_for (request_for given)) ≡ 0 = no_line_ends (line_for (request_for given)) (line_has_no_end (request_for given) h.proper) in
+    rw h.text_is (omega (arith, plain, behind_ends given, line_ends_behind (line_for (request_for given)) (behind_line given)))
 
 -- ---- a reader's answer
 

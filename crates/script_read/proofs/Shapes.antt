@@ -120,14 +120,14 @@ content_cases len bytes content rest false true e f h =
 pub content_shape : (len : ℕ) (bytes content rest : List ℕ) → content_at len bytes ≡ Ok (content, rest) → (bytes ≡ content ++ 10 ∷ rest) × (length content ≡ len)
 content_shape len bytes content rest h = content_cases len bytes content rest _ _ refl refl h
 
-no_line_ends : (line : List ℕ) → HasNoEnd line → line_ends line ≡ 0
+pub no_line_ends : (line : List ℕ) → HasNoEnd line → line_ends line ≡ 0
 no_line_ends [] h = refl
 no_line_ends (b ∷ line) h =
     let both : (is_line_end b ≡ false) × (list_any is_line_end line ≡ false) = neither _ _ h in
     let none : cond {A = ℕ} (is_line_end b) 1 0 ≡ 0 = rw both.0 refl in
     omega (arith, sum_by-cons (λ x. cond (is_line_end x) 1 0) b line, none, no_line_ends line both.1)
 
-line_ends_behind : (front rest : List ℕ) → line_ends (front ++ 10 ∷ rest) ≡ line_ends front + 1 + line_ends rest
+pub line_ends_behind : (front rest : List ℕ) → line_ends (front ++ 10 ∷ rest) ≡ line_ends front + 1 + line_ends rest
 line_ends_behind front rest = omega (arith, sum_by-append (λ x. cond (is_line_end x) 1 0) front (10 ∷ rest), sum_by-cons (λ x. cond (is_line_end x) 1 0) 10 rest)
 
 pub bind_ok : {A B : Type 0} (r : Result A Refusal) (next : A → Result B Refusal) (y : B) → (r >>= next) ≡ Ok y → (x : A) × (r ≡ Ok x) × (next x ≡ Ok y)
