@@ -7,7 +7,7 @@ use Rattle.script_read.specs.Script.{content_at}
 use Rattle.script_read.specs.Reads.{Reads}
 use Rattle.script_read.proofs.LineReads.{more_read}
 
-get_seam : (content : List ℕ) (b : ℕ) (rest : List ℕ) → get_or (content ++ b ∷ rest) (length content) 0 ≡ b
+pub get_seam : (content : List ℕ) (b : ℕ) (rest : List ℕ) → get_or (content ++ b ∷ rest) (length content) 0 ≡ b
 get_seam [] b rest = refl
 get_seam (x ∷ content) b rest = get_seam content b rest
 

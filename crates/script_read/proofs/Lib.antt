@@ -6,3 +6,9 @@ pub mod SizeLemmas
 pub mod Contents
 pub mod Shapes
 pub mod Joined
+pub mod Splits
+pub mod Fields
+pub mod Firsts
+pub mod Requests
+pub mod Stages
+pub mod Meanings

@@ -3,9 +3,9 @@ use Rattle.std.proofs.Common.{◌≡◌, ℕ, ◌≤◌, ◌==◌, false, List, 
 use Rattle.std.proofs.lemmas.Bool.Decides.{nat_tests}
 use Rattle.std.specs.Option.{option_map}
 use Rattle.script_read.specs.declared.command.Refusal.TheVariants.{ReadFault}
-use Rattle.script_read.specs.Line.{line_at}
+use Rattle.script_read.specs.Line.{HasNoEnd, line_at}
 use Rattle.script_read.specs.Reads.{Reads, IsUnfinished}
-use Rattle.script_read.proofs.Lines.{HasNoEnd, line_found, line_unended}
+use Rattle.script_read.proofs.Lines.{line_found, line_unended}
 
 -- what was read so far, and then one more piece
 pub more_read : (old mid new : Option (List ℕ)) (front piece : List ℕ) → old ≡ option_map (λ rest. front ++ rest) mid → mid ≡ option_map (λ rest. piece ++ rest) new → old ≡ option_map (λ rest. (front ++ piece) ++ rest) new

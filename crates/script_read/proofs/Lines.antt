@@ -6,11 +6,7 @@ use Rattle.std.proofs.Math.Seq.{take-append_seam, drop-append-add}
 use Rattle.std.proofs.lemmas.List.{take_all}
 use Rattle.zw_base.specs.declared.reason.Reason.TheVariants.{CutShort}
 use Rattle.script_read.specs.declared.command.Refusal.TheVariants.{End, Bad}
-use Rattle.script_read.specs.Line.{is_line_end, line_at}
-
--- none of the bytes is LF
-abbrev pub HasNoEnd : List ℕ → Type 0
-HasNoEnd line = list_any is_line_end line ≡ false
+use Rattle.script_read.specs.Line.{is_line_end, HasNoEnd, line_at}
 
 pub neither : (a b : Bool) → (a || b) ≡ false → (a ≡ false) × (b ≡ false)
 neither true b h = cc

@@ -28,8 +28,12 @@ third false true c d h = cc
 third false false true d h = refl
 third false false false d h = cc
 
+-- each byte of an allowed path may stand in one
+pub path_bytes : (word : List ℕ) → is_none (path_fault word) ≡ true → list_all is_path_byte word ≡ true
+path_bytes word h = third _ _ _ _ h
+
 pub text_of_path : (word : List ℕ) → is_none (path_fault word) ≡ true → IsUtf8 word
-text_of_path word h = IsUtf8-from_ascii word (path_bytes_ascii word (third _ _ _ _ h))
+text_of_path word h = IsUtf8-from_ascii word (path_bytes_ascii word (path_bytes word h))
 
 no_path : (word : List ℕ) (b : Bool) → is_none (path_fault word) ≡ b → (IsUtf8 word → ⊥) → path_in word ≡ Err (Bad BadPath)
 no_path word true h binary = absurd (binary (text_of_path word h))

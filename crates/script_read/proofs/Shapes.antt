@@ -14,19 +14,14 @@ use Rattle.script_read.specs.declared.command.Request.TheVariants as request
 use Rattle.script_read.specs.declared.command.Refusal.{Refusal}
 use Rattle.script_read.specs.declared.command.Refusal.TheVariants.{End, Bad}
 use Rattle.script_read.specs.Answers.{◌>>=◌}
-use Rattle.script_read.specs.Line.{is_line_end, line_at, line_ends}
+use Rattle.script_read.specs.Line.{is_line_end, HasNoEnd, IsParted, line_at, line_ends}
 use Rattle.script_read.specs.Script.{content_at, completed, judged, next_of}
 use Rattle.script_read.specs.Sizes.{Sizes}
 use Rattle.script_read.specs.Reads.{lines_of}
-use Rattle.script_read.proofs.Lines.{HasNoEnd, neither}
-
--- a list that is parted at an LF: what stands before it has none
-pub record IsParted (bytes front rest : List ℕ) : Type 0 where
-  pub whole : bytes ≡ front ++ 10 ∷ rest
-  pub none : HasNoEnd front
+use Rattle.script_read.proofs.Lines.{neither}
 
 -- two answers with pairs
-ok_parts : {A B : Type 0} (x y : A × B) (r s : Result (A × B) Refusal) → r ≡ Ok x → s ≡ Ok y → r ≡ s → (x.0 ≡ y.0) × (x.1 ≡ y.1)
+pub ok_parts : {A B : Type 0} (x y : A × B) (r s : Result (A × B) Refusal) → r ≡ Ok x → s ≡ Ok y → r ≡ s → (x.0 ≡ y.0) × (x.1 ≡ y.1)
 ok_parts x y r s e f h = let p : x ≡ y = cc in (ap (λ z. z.0) p, ap (λ z. z.1) p)
 
 first_yes : (b : ℕ) (bs : List ℕ) → is_line_end b ≡ true → position_or_len is_line_end (b ∷ bs) ≡ 0
@@ -125,14 +120,14 @@ content_cases len bytes content rest false true e f h =
 pub content_shape : (len : ℕ) (bytes content rest : List ℕ) → content_at len bytes ≡ Ok (content, rest) → (bytes ≡ content ++ 10 ∷ rest) × (length content ≡ len)
 content_shape len bytes content rest h = content_cases len bytes content rest _ _ refl refl h
 
-no_line_ends : (line : List ℕ) → HasNoEnd line → line_ends line ≡ 0
+pub no_line_ends : (line : List ℕ) → HasNoEnd line → line_ends line ≡ 0
 no_line_ends [] h = refl
 no_line_ends (b ∷ line) h =
     let both : (is_line_end b ≡ false) × (list_any is_line_end line ≡ false) = neither _ _ h in
     let none : cond {A = ℕ} (is_line_end b) 1 0 ≡ 0 = rw both.0 refl in
     omega (arith, sum_by-cons (λ x. cond (is_line_end x) 1 0) b line, none, no_line_ends line both.1)
 
-line_ends_behind : (front rest : List ℕ) → line_ends (front ++ 10 ∷ rest) ≡ line_ends front + 1 + line_ends rest
+pub line_ends_behind : (front rest : List ℕ) → line_ends (front ++ 10 ∷ rest) ≡ line_ends front + 1 + line_ends rest
 line_ends_behind front rest = omega (arith, sum_by-append (λ x. cond (is_line_end x) 1 0) front (10 ∷ rest), sum_by-cons (λ x. cond (is_line_end x) 1 0) 10 rest)
 
 pub bind_ok : {A B : Type 0} (r : Result A Refusal) (next : A → Result B Refusal) (y : B) → (r >>= next) ≡ Ok y → (x : A) × (r ≡ Ok x) × (next x ≡ Ok y)

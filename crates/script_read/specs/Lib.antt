@@ -5,3 +5,6 @@ pub mod Sizes
 pub mod Script
 pub mod ReaderState
 pub mod Reads
+pub mod Grammar
+pub mod Causes
+pub mod ScriptLaw

@@ -31,13 +31,20 @@ files_after (request.File path len) files = (path, len) ∷ others path files
 files_after (request.Drop path) files = others path files
 files_after request.Update files = files
 
--- the first limit that is passed, by so many commands and these files
+-- a limit is passed by so many commands and these files
+abbrev pub is_over : Limits → ℕ → Sizes → Which → Bool
+is_over limits commands files Commands = nat_lt limits.commands commands
+is_over limits commands files FileBytes = list_any (λ file. nat_lt limits.file_bytes file.1) files
+is_over limits commands files Files = nat_lt limits.files (length files)
+is_over limits commands files TotalBytes = nat_lt limits.total_bytes (total files)
+
+-- the first limit that is passed
 abbrev pub exceeded : Limits → ℕ → Sizes → Option Which
 exceeded limits commands files =
-    if nat_lt limits.commands commands then Some Commands
-    else if list_any (λ file. nat_lt limits.file_bytes file.1) files then Some FileBytes
-    else if nat_lt limits.files (length files) then Some Files
-    else if nat_lt limits.total_bytes (total files) then Some TotalBytes
+    if is_over limits commands files Commands then Some Commands
+    else if is_over limits commands files FileBytes then Some FileBytes
+    else if is_over limits commands files Files then Some Files
+    else if is_over limits commands files TotalBytes then Some TotalBytes
     else None
 
 -- a `drop` names a path that no file has

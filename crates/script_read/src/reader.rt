@@ -30,6 +30,7 @@ impl ScriptReader {
     ghost use Rattle.zw_base.specs.Outside.{Rose};
     ghost use Rattle.script_read.specs.Sizes.{AreWithin};
     ghost use Rattle.script_read.specs.Reads.{Answers, answer_of, after};
+    ghost use Rattle.script_read.specs.ScriptLaw.{HasCause, IsExact};
 
     /// A reader before the first byte of a script.
     pub fn new(shape: Limits) -> ScriptReader
@@ -48,7 +49,13 @@ impl ScriptReader {
     pub fn next<S: Source>(&mut self, alloc: Global, s: &mut S, have: &FileSizes) -> Next
         requires { AreWithin self.old.limits have.now }
 
-        // Where it has not stopped, the answer is the one of the bytes that were left.
+        // Where it has not stopped, the answer has its cause in the bytes that were left, by the grammar
+        // and the order of refusals; and whatever these bytes mean is answered, unless reading failed or
+        // there was no memory.
+        ensures cause { IfNone self.old.stopped (IfSome (S.left s.old) (λ bytes. HasCause self.old have.now bytes (S.left s.new) result)) }
+        ensures exact { IfNone self.old.stopped (IfSome (S.left s.old) (λ bytes. IsExact self.old have.now bytes (S.left s.new) result)) }
+
+        // The same, as a function on the bytes that were left.
         ensures told { IfNone self.old.stopped (IfSome (S.left s.old) (λ bytes. Answers self.old have.now bytes (S.left s.new) result)) }
         ensures limits { self.new.limits ≡ self.old.limits }
         ensures after { IfNone self.old.stopped (self.new ≡ after self.old result) }
@@ -57,6 +64,20 @@ impl ScriptReader {
         ensures stops { IfSome self.new.stopped (λ refusal. result ≡ answer_of self.new refusal) }
         ensures again { IfSome self.old.stopped (λ _. (self.new ≡ self.old) × (s.new ≡ s.old)) }
 
+        ensures faults { S.faults s.old ≤ S.faults s.new }
+        ensures read_fault { result ≡ Next.ReadFault → (self.old.stopped ≡ Some Refusal.ReadFault) ⊎ Rose (S.faults s.old) (S.faults s.new) }
+    {
+        self.read_next(alloc, s, have)
+    }
+
+    /// The next command, or why there is none, as a function on the bytes that were left.
+    fn read_next<S: Source>(&mut self, alloc: Global, s: &mut S, have: &FileSizes) -> Next
+        requires { AreWithin self.old.limits have.now }
+        ensures told { IfNone self.old.stopped (IfSome (S.left s.old) (λ bytes. Answers self.old have.now bytes (S.left s.new) result)) }
+        ensures limits { self.new.limits ≡ self.old.limits }
+        ensures after { IfNone self.old.stopped (self.new ≡ after self.old result) }
+        ensures stops { IfSome self.new.stopped (λ refusal. result ≡ answer_of self.new refusal) }
+        ensures again { IfSome self.old.stopped (λ _. (self.new ≡ self.old) × (s.new ≡ s.old)) }
         ensures faults { S.faults s.old ≤ S.faults s.new }
         ensures read_fault { result ≡ Next.ReadFault → (self.old.stopped ≡ Some Refusal.ReadFault) ⊎ Rose (S.faults s.old) (S.faults s.new) }
     {

@@ -6,7 +6,8 @@ use std::alloc::{AllocError, Global};
 use std::test::Fail;
 use zw_base::{Bytes, FileSizes, MemSource, Reason, Seq, Which};
 
-const LIMITS: Limits = Limits {
+/// The limits of the product.
+pub const LIMITS: Limits = Limits {
     commands: 1_000_000,
     files: 1_024,
     file_bytes: 1_048_576,
@@ -14,13 +15,18 @@ const LIMITS: Limits = Limits {
     line: 300,
 };
 
-fn no_files(alloc: Global) -> FileSizes
+pub fn no_files(alloc: Global) -> FileSizes
     ensures { result ≡ [] }
 {
     Seq::of(Vec::new(alloc))
 }
 
-fn source(alloc: Global, script: &[u8], most: usize, failing: u64) -> Result<MemSource, AllocError>
+pub fn source(
+    alloc: Global,
+    script: &[u8],
+    most: usize,
+    failing: u64,
+) -> Result<MemSource, AllocError>
     requires { 1 ≤ most }
 {
     let mut calls = Vec::new(alloc);
@@ -29,7 +35,7 @@ fn source(alloc: Global, script: &[u8], most: usize, failing: u64) -> Result<Mem
     Ok(MemSource::new(bytes, most, Seq::of(calls)))
 }
 
-fn is_refused(answer: &Next, line: u64, reason: Reason) -> bool {
+pub fn is_refused(answer: &Next, line: u64, reason: Reason) -> bool {
     match answer {
         Next::BadScript {
             line: at,
@@ -39,7 +45,7 @@ fn is_refused(answer: &Next, line: u64, reason: Reason) -> bool {
     }
 }
 
-fn is_limit(answer: &Next, which: Which, number: u64) -> bool {
+pub fn is_limit(answer: &Next, which: Which, number: u64) -> bool {
     match answer {
         Next::Limit {
             which: w,
@@ -68,6 +74,8 @@ fn refusals_in_their_order(rt: HostRuntime) -> Result<(), Fail> {
         (&long[..], Reason::LineTooLong),
         (&long[..300], Reason::CutShort),
         (b"nothing\n".as_slice(), Reason::UnknownCommand),
+        (b"\n".as_slice(), Reason::UnknownCommand),
+        (b"update\r\n".as_slice(), Reason::UnknownCommand),
         (b" update\n".as_slice(), Reason::UnknownCommand),
         (b"update \n".as_slice(), Reason::BadWords),
         (b"drop \n".as_slice(), Reason::BadWords),
@@ -87,6 +95,26 @@ fn refusals_in_their_order(rt: HostRuntime) -> Result<(), Fail> {
 }
 
 #[test]
+fn a_line_of_the_most_bytes_is_read(rt: HostRuntime) -> Result<(), Fail> {
+    let mut line = vec![in rt.alloc(); b'a'; 300]?;
+    line.push(b'\n')?;
+    assert!(rt; refuses(rt.alloc(), line.as_slice(), 1, Reason::UnknownCommand)?);
+    assert!(rt; refuses(rt.alloc(), line.as_slice(), 1000, Reason::UnknownCommand)?);
+    Ok(())
+}
+
+#[test]
+fn an_empty_script_ends(rt: HostRuntime) -> Result<(), Fail> {
+    let mut s = source(rt.alloc(), b"".as_slice(), 1, 0)?;
+    let mut reader = ScriptReader::new(LIMITS);
+    for _ in 0..2u32 {
+        let answer = reader.next(rt.alloc(), &mut s, &no_files(rt.alloc()));
+        assert!(rt; matches!(answer, Next::End));
+    }
+    Ok(())
+}
+
+#[test]
 fn limits_before_the_bytes(rt: HostRuntime) -> Result<(), Fail> {
     let mut s = source(rt.alloc(), b"file a.zig 1048577\n".as_slice(), 5, 0)?;
     let mut reader = ScriptReader::new(LIMITS);
@@ -95,33 +123,57 @@ fn limits_before_the_bytes(rt: HostRuntime) -> Result<(), Fail> {
     Ok(())
 }
 
-/// How many commands a script gives before it stops, and whether it stops with a fault of reading.
-fn run(alloc: Global, script: &[u8], failing: u64) -> Result<(u32, bool), AllocError> {
-    let mut s = source(alloc, script, 1, failing)?;
+/// How many commands a script gives before it stops, and whether it stops with a fault of reading and
+/// stays so.
+fn run(alloc: Global, script: &[u8], most: usize, failing: u64) -> Result<(u32, bool), AllocError>
+    requires { 1 ≤ most }
+{
+    let mut s = source(alloc, script, most, failing)?;
     let have = no_files(alloc);
     let mut reader = ScriptReader::new(LIMITS);
     for commands in 0..10u32 {
         match reader.next(alloc, &mut s, &have) {
             Next::Command(Command::File { .. }) | Next::Command(Command::Update) => {}
-            Next::ReadFault => return Ok((commands, true)),
+            Next::ReadFault => {
+                let again = reader.next(alloc, &mut s, &have);
+                return Ok((commands, matches!(again, Next::ReadFault)));
+            }
             _ => return Ok((commands, false)),
         }
     }
     Ok((10, false))
 }
 
-#[test]
-fn a_fault_at_each_call(rt: HostRuntime) -> Result<(), Fail> {
-    let script = b"file a.zig 3\nabc\nupdate\n".as_slice();
+/// Whether a fault at each call comes before the first command up to the call `first`, before the second
+/// up to `second`, and before the end up to `last`.
+fn fails_at_each_call(
+    alloc: Global,
+    most: usize,
+    first: u64,
+    second: u64,
+    last: u64,
+) -> Result<bool, AllocError>
+    requires { 1 ≤ most }
+{
     for failing in 1..30u64 {
-        let whole = if failing <= 17 {
+        let whole = if failing <= first {
             0
-        } else if failing <= 24 {
+        } else if failing <= second {
             1
         } else {
             2
         };
-        assert_eq!(rt; run(rt.alloc(), script, failing)?, (whole, failing <= 25));
+        let answer = run(alloc, b"file a.zig 3\nabc\nupdate\n", most, failing)?;
+        if answer.0 != whole || answer.1 != (failing <= last) {
+            return Ok(false);
+        }
     }
+    Ok(true)
+}
+
+#[test]
+fn a_fault_at_each_call(rt: HostRuntime) -> Result<(), Fail> {
+    assert!(rt; fails_at_each_call(rt.alloc(), 1, 17, 24, 25)?);
+    assert!(rt; fails_at_each_call(rt.alloc(), 1000, 15, 22, 23)?);
     Ok(())
 }

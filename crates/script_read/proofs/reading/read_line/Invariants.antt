@@ -1,6 +1,6 @@
 use Rattle.std.proofs.Common.{◌≡◌, ◌≤◌, ◌++◌, length}
 use Rattle.std.specs.Option.{option_map}
-use Rattle.script_read.proofs.Lines.{HasNoEnd}
+use Rattle.script_read.specs.Line.{HasNoEnd}
 use Rattle.script_read.proofs.reading.read_line.Given as goal
 
 -- the line so far is what stood in front
