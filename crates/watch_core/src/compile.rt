@@ -1,13 +1,15 @@
 // The answer for the files, from the root on.
-ghost use Rattle.std.specs.Prelude.{◌≡◌, ◌≤◌, length, [], ◌∷◌, IfOk, Some, None, codes};
+ghost use Rattle.std.specs.Prelude.{◌≡◌, ◌≤◌, length, [], ◌∷◌, ◌<◌, ◌^◌, IfOk, Some, None, codes};
 ghost use Rattle.std.specs.Int.{w32, cast_signed};
 ghost use Rattle.std.specs.Option.{option_map};
 ghost use Rattle.std.specs.Option.{ForSome};
 ghost use Rattle.zig_token.specs.Scan.{tokens_of};
 ghost use Rattle.zig_parse.specs.Growth.{parse_of};
-ghost use Rattle.watch_core.specs.Compile.{linked, at_start, at_byte, start_of, link, compile_form, compile_tree, compile_tokens, compile_text, update_of, stack_pointer};
+ghost use Rattle.zir_scope.specs.Findings.{scope_faults};
+ghost use Rattle.watch_core.specs.Compile.{linked, at_start, at_byte, start_of, link, compile_form, compile_scopes, compile_tree, compile_tokens, compile_text, update_of, stack_pointer};
 
 use crate::form::{ConstFn, built_of};
+use crate::scopes::scope_lines;
 use crate::session::Update;
 use diag_order::{Line, line_col};
 use std::alloc::{AllocError, Global};
@@ -17,7 +19,8 @@ use wasm_form::{
 };
 use zig_parse::{SyntaxFault, parse};
 use zig_token::{LexFault, tokens};
-use zig_tree::Token;
+use zig_tree::{Token, Tree};
+use zir_scope::resolve;
 use zw_base::limits::TOTAL_BYTES;
 use zw_base::{Bytes, DiagCode, FilePath, Seq};
 use zw_bytes::ByteBuf;
@@ -70,18 +73,39 @@ fn compile_source(alloc: Global, root: &FilePath, text: &[u8]) -> Result<Update,
     }
 }
 
-/// The answer for tokens: the form's answer, or the token that is refused.
+/// The answer for a sentence: the form's answer, or the diagnostics of its names.
+fn compile_scopes(
+    alloc: Global,
+    root: &FilePath,
+    text: &[u8],
+    tokens: &[Token],
+    tree: &Tree,
+) -> Result<Update, AllocError>
+    requires within { length text.now ≤ TOTAL_BYTES }
+    requires count { length tokens.now < 2 ^ 32 }
+    ensures { IfOk result (λ u. u ≡ update_of (compile_scopes root.now text.now tokens.now (scope_faults text.now tokens.now tree.now.nodes tree.now.root))) }
+{
+    let scopes = resolve(alloc, text, tokens, tree)?;
+    if scopes.found.is_empty() {
+        compile_form(alloc, root, built_of(text, tokens))
+    } else {
+        front(scope_lines(alloc, root, text, scopes.found.as_slice())?)
+    }
+}
+
+/// The answer for tokens: the sentence's answer, or the token that is refused.
 fn compile_tokens(
     alloc: Global,
     root: &FilePath,
     text: &[u8],
     tokens: &[Token],
 ) -> Result<Update, AllocError>
-    requires { length text.now ≤ TOTAL_BYTES }
+    requires within { length text.now ≤ TOTAL_BYTES }
+    requires count { length tokens.now < 2 ^ 32 }
     ensures { IfOk result (λ u. u ≡ update_of (compile_tree root.now text.now tokens.now (parse_of tokens.now))) }
 {
     match parse(alloc, tokens) {
-        Ok(_) => compile_form(alloc, root, built_of(text, tokens)),
+        Ok(tree) => compile_scopes(alloc, root, text, tokens, &tree),
         Err(SyntaxFault::Unexpected { at, .. }) => {
             front(at_byte(
                 alloc,

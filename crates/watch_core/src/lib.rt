@@ -9,6 +9,7 @@
 
 mod compile;
 mod form;
+mod scopes;
 mod session;
 #[cfg(test)]
 mod tests;
