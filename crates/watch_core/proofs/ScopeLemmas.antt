@@ -51,8 +51,8 @@ few_from text at skip [] ts e = let l : length ts ≡ 1 = ap length (same_ok _ t
 few_from text at (suc skip) (b ∷ rest) ts e = let k : length ts ≤ length rest + 1 = few_from text (at + 1) skip rest ts e in omega (arith, k)
 few_from text at zero (b ∷ rest) ts e =
     let k : length ts ≤ length rest + 1 + 1 =
-        few_piece at (length rest + 1) (piece_at text at) (λ piece. tokens_from text (at + 1) (piece_end piece - (at + 1)) rest) ts
-            (λ piece us f. few_from text (at + 1) (piece_end piece - (at + 1)) rest us f) e in
+    few_piece at (length rest + 1) (piece_at text at) (λ piece. tokens_from text (at + 1) (piece_end piece - (at + 1)) rest) ts
+    (λ piece us f. few_from text (at + 1) (piece_end piece - (at + 1)) rest us f) e in
     omega (arith, k)
 
 -- a text has no more tokens than bytes, but for the last
@@ -109,5 +109,5 @@ pub scopes_given : (root text : List ℕ) (found : List Found) (diags : List Dia
     → lines ≡ in_order (map (scope_line root text) found)
 scopes_given root text found diags texts lines d t s h =
     let same : map (line_of texts) diags ≡ map (line_of (one root text)) (map (diag_of root (length text)) found) =
-        ap (λ (ts : Texts). map (line_of ts) diags) t ∙ ap (map (line_of (one root text))) d in
+    ap (λ (ts : Texts). map (line_of ts) diags) t ∙ ap (map (line_of (one root text))) d in
     scopes_sorted root text found lines s (λ l. subst (λ (ls : List Line). Contains lines l ↔ Contains ls l) same (h l))

@@ -10,12 +10,7 @@ use zw_base::limits::TOTAL_BYTES;
 use zw_base::{Bytes, FilePath, FileTexts, Found, Seq};
 
 /// A diagnostic of a file; a place behind the text is its end.
-fn diag_of(
-    alloc: Global,
-    root: &FilePath,
-    text: &[u8],
-    found: &Found,
-) -> Result<Diag, AllocError>
+fn diag_of(alloc: Global, root: &FilePath, text: &[u8], found: &Found) -> Result<Diag, AllocError>
     requires { length text.now ≤ TOTAL_BYTES }
     ensures { IfOk result (λ d. d ≡ diag_of root.now (length text.now) found.now) }
 {

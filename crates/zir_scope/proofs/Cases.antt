@@ -1,5 +1,5 @@
 -- Nodes of no role of their own.
-use Rattle.std.proofs.Common.{◌≡◌, refl, sym, ap, ◌∙◌, List}
+use Rattle.std.proofs.Common.{◌≡◌, refl, ap, ◌∙◌, List}
 use Rattle.zir_scope.specs.declared.roles.Role.{Role}
 use Rattle.zir_scope.specs.declared.roles.Role.TheVariants as role
 use Rattle.zir_scope.specs.declared.facts.Fact.{Fact}

@@ -1,6 +1,6 @@
 -- The row of a node is that of what it holds.
-use Rattle.std.proofs.Common.{◌≡◌, ℕ, zero, suc, ◌+◌, ◌<◌, ◌≤◌, Bool, true, false, ◌&&◌, IsTrue, List, [], ◌∷◌, ◌++◌, length, get_or, refl, sym, ◌∙◌, ap, subst, arith, nat_lt, add-zero, zero-add, Option, Some, None, length-append}
-use Rattle.std.specs.Prelude.{slice_get, slice_index_or}
+use Rattle.std.proofs.Common.{◌≡◌, ℕ, zero, suc, ◌+◌, ◌<◌, ◌≤◌, Bool, true, false, ◌&&◌, List, [], ◌∷◌, ◌++◌, length, get_or, refl, sym, ◌∙◌, ap, subst, arith, nat_lt, add-zero, zero-add, Some, None, length-append}
+use Rattle.std.specs.Prelude.{slice_get}
 use Rattle.std.proofs.lemmas.Bool.Decides.{nat_tests}
 use Rattle.std.proofs.lemmas.List.{get_or_append_left}
 use Rattle.std.proofs.lemmas.Option.{slice_get_past, slice_get_read}
@@ -59,16 +59,16 @@ at_number ts all done (m ∷ ns) zero n h e =
     let last : row_at (done ++ r ∷ []) (length done) ≡ r = get_or-append_seam done r [] nothing in
     let early : are_earlier (length done) m.kids ≡ true = and_first (are_earlier (length done) m.kids) (all_earlier (length done + 1) ns) h in
     let same : (j : ℕ) → j < length done → row_at done j ≡ row_at full j =
-        λ j b. sym (kept ts all (done ++ r ∷ []) ns j (omega (arith, l, b)) ∙ get_or_append_left done (r ∷ []) nothing j b) in
+    λ j b. sym (kept ts all (done ++ r ∷ []) ns j (omega (arith, l, b)) ∙ get_or_append_left done (r ∷ []) nothing j b) in
     rw add-zero (stays ∙ last ∙ same_row ts all done full (length done) m.kids early same ∙ ap (λ (x : Node). row ts all full x.kids) is)
 at_number ts all done (m ∷ ns) (suc i) n h e =
     let r : Syntax = row ts all done m.kids in
     let l : length (done ++ r ∷ []) ≡ length done + 1 = length_done done r in
     let index : length (done ++ r ∷ []) + i ≡ length done + suc i = omega (arith, l) in
     let early : all_earlier (length (done ++ r ∷ [])) ns ≡ true =
-        subst (λ (k : ℕ). all_earlier k ns ≡ true) (sym l) (and_second (are_earlier (length done) m.kids) (all_earlier (length done + 1) ns) h) in
+    subst (λ (k : ℕ). all_earlier k ns ≡ true) (sym l) (and_second (are_earlier (length done) m.kids) (all_earlier (length done + 1) ns) h) in
     let found : row_at (rows_after ts all (done ++ r ∷ []) ns) (length (done ++ r ∷ []) + i) ≡ row ts all (rows_after ts all (done ++ r ∷ []) ns) n.kids =
-        at_number ts all (done ++ r ∷ []) ns i n early e in
+    at_number ts all (done ++ r ∷ []) ns i n early e in
     subst (λ (k : ℕ). row_at (rows_after ts all (done ++ r ∷ []) ns) k ≡ row ts all (rows_after ts all (done ++ r ∷ []) ns) n.kids) index found
 
 -- the row with a node's number is that of what the node holds

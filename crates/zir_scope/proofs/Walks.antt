@@ -1,5 +1,5 @@
 -- One step of the walk over a tree.
-use Rattle.std.proofs.Common.{◌≡◌, ℕ, List, [], ◌∷◌, ◌++◌, length, take, refl, subst, sym, arith, ◌<◌, ◌∙◌, ap, append_assoc}
+use Rattle.std.proofs.Common.{◌≡◌, ℕ, List, [], ◌∷◌, ◌++◌, length, take, subst, sym, arith, ◌<◌, ◌∙◌, ap, append_assoc}
 use Rattle.std.proofs.lemmas.List.{append-nil}
 use Rattle.zig_tree.specs.declared.token.TokenKind.{TokenKind}
 use Rattle.zig_tree.specs.declared.grammar.Rule.{Rule}
@@ -12,7 +12,7 @@ use Rattle.zir_scope.specs.declared.place.Context.{Context}
 use Rattle.zir_scope.specs.declared.place.Exit.{Exit}
 use Rattle.zir_scope.specs.declared.roles.Role.{Role}
 use Rattle.zir_scope.specs.Roles.{role_of, mark_of}
-use Rattle.zir_scope.specs.Syntax.{Syntax, nothing, word, node, inside_of, row_in, rule_at}
+use Rattle.zir_scope.specs.Syntax.{Syntax, nothing, word, node, row_in}
 use Rattle.zir_scope.specs.Scoping.{Place, word_events, past_word, past_node, changes_within, declared, end_events, within, walk, visited}
 use Rattle.zir_scope.specs.State.{Seen, place, Extends}
 use Rattle.zir_scope.proofs.Prefixes.{extends_all, extends_cut}
@@ -42,8 +42,8 @@ pub walk_node : (facts : List Fact) (p q : Place) (found now : List Event) (r : 
 unfolding walk visited
 walk_node facts p q found now r inside more e a =
     let here : List Event =
-        declared facts p (role_of r) inside ++ changes_within facts (within facts p (role_of r) inside) (role_of r) inside
-          ++ walk facts (within facts p (role_of r) inside) inside ++ end_events (role_of r) in
+    declared facts p (role_of r) inside ++ changes_within facts (within facts p (role_of r) inside) (role_of r) inside
+    ++ walk facts (within facts p (role_of r) inside) inside ++ end_events (role_of r) in
     ap (λ l. l ++ walk facts q more) e ∙ append_assoc found here (walk facts q more)
     ∙ ap (λ (x : Place). found ++ (here ++ walk facts x more)) a
 
@@ -75,21 +75,21 @@ visit_step facts o s0 s1 s2 c2 s3 s4 s5 context inner r inside before enters kep
     let m2 : c2.members ≡ s2.members = ap (λ (s : Seen). s.members) change in
     let x2 : c2.exits ≡ s2.exits = ap (λ (s : Seen). s.exits) change in
     let e2 : c2.events ≡ s0.events ++ (heads ++ changing) =
-        ap (λ (s : Seen). s.events) change ∙ ap (λ (x : Place). s2.events ++ changes_within facts x r inside) begun
-        ∙ ap (λ (l : List Event). l ++ changing) (kept ∙ e1) ∙ append_assoc s0.events heads changing in
+    ap (λ (s : Seen). s.events) change ∙ ap (λ (x : Place). s2.events ++ changes_within facts x r inside) begun
+    ∙ ap (λ (l : List Event). l ++ changing) (kept ∙ e1) ∙ append_assoc s0.events heads changing in
     let l3 : Extends s1.locals s3.locals =
-        extends_all s1.locals s2.locals s3.locals ls (subst (λ (l : List Binding). Extends l s3.locals) l2 lgrow) in
+    extends_all s1.locals s2.locals s3.locals ls (subst (λ (l : List Binding). Extends l s3.locals) l2 lgrow) in
     let lcut : take (length s0.locals) s3.locals ≡ s0.locals =
-        ap (λ (l : List Binding). take (length l) s3.locals) (sym l1) ∙ extends_cut s1.locals s3.locals l3 ∙ l1 in
+    ap (λ (l : List Binding). take (length l) s3.locals) (sym l1) ∙ extends_cut s1.locals s3.locals l3 ∙ l1 in
     let mcut : take (length s0.members) s3.members ≡ s0.members =
-        ap (λ (l : List Binding). take (length l) s3.members) (sym m1) ∙ ap (take (length s1.members)) (msame ∙ m2) ∙ extends_cut s1.members s2.members ms ∙ m1 in
+    ap (λ (l : List Binding). take (length l) s3.members) (sym m1) ∙ ap (take (length s1.members)) (msame ∙ m2) ∙ extends_cut s1.members s2.members ms ∙ m1 in
     let xcut : take (length s0.exits) s3.exits ≡ s0.exits =
-        ap (λ (l : List Exit). take (length l) s3.exits) (sym x1) ∙ ap (take (length s1.exits)) (xsame ∙ x2) ∙ extends_cut s1.exits s2.exits xs ∙ x1 in
+    ap (λ (l : List Exit). take (length l) s3.exits) (sym x1) ∙ ap (take (length s1.exits)) (xsame ∙ x2) ∙ extends_cut s1.exits s2.exits xs ∙ x1 in
     let e3 : s3.events ≡ s0.events ++ (heads ++ changing ++ inners) =
-        walked ∙ ap (λ (x : Place). c2.events ++ walk facts x inside) still ∙ ap (λ (l : List Event). l ++ inners) e2
-        ∙ append_assoc s0.events (heads ++ changing) inners in
+    walked ∙ ap (λ (x : Place). c2.events ++ walk facts x inside) still ∙ ap (λ (l : List Event). l ++ inners) e2
+    ∙ append_assoc s0.events (heads ++ changing) inners in
     let e5 : s3.events ++ end_events r ≡ s0.events ++ (heads ++ changing ++ inners ++ end_events r) =
-        ap (λ (l : List Event). l ++ end_events r) e3 ∙ append_assoc s0.events (heads ++ changing ++ inners) (end_events r) in
+    ap (λ (l : List Event). l ++ end_events r) e3 ∙ append_assoc s0.events (heads ++ changing ++ inners) (end_events r) in
     behind ∙ ap (λ (s : Seen). record s { events = s.events ++ end_events r }) cut
     ∙ ap (λ (l : List Binding). record { locals = l; members = take (length s0.members) s3.members; exits = take (length s0.exits) s3.exits; events = s3.events ++ end_events r }) lcut
     ∙ ap (λ (l : List Binding). record { locals = s0.locals; members = l; exits = take (length s0.exits) s3.exits; events = s3.events ++ end_events r }) mcut
@@ -103,7 +103,7 @@ pub word_step : (facts : List Fact) (o : Outline) (s0 s1 : Seen) (now then : Con
     → s1.events ++ walk facts (place o s1 then) more ≡ s0.events ++ walk facts (place o s0 now) (word t k more)
 word_step facts o s0 s1 now then t k more h a =
     walk_word facts (place o s0 now) (place o s1 then) s0.events s1.events t k more (ap (λ (s : Seen). s.events) h)
-        (a s1 ∙ ap (λ (s : Seen). past_word facts (place o s now) t (mark_of k)) h)
+    (a s1 ∙ ap (λ (s : Seen). past_word facts (place o s now) t (mark_of k)) h)
 
 -- and behind a node
 pub node_step : (facts : List Fact) (o : Outline) (s0 s1 s2 : Seen) (now then : Context) (r : Rule) (inside more : Syntax)
@@ -112,6 +112,6 @@ pub node_step : (facts : List Fact) (o : Outline) (s0 s1 s2 : Seen) (now then : 
     → s2.events ++ walk facts (place o s2 then) more ≡ s0.events ++ walk facts (place o s0 now) (node r inside more)
 node_step facts o s0 s1 s2 now then r inside more h e a =
     walk_node facts (place o s0 now) (place o s2 then) s0.events s2.events r inside more (e ∙ ap (λ (s : Seen). s.events) h)
-        (a ∙ ap (λ (s : Seen). past_node facts (place o s now) (role_of r) inside) h)
+    (a ∙ ap (λ (s : Seen). past_node facts (place o s now) (role_of r) inside) h)
 
 pub ruleset walk_steps = (walk_end)

@@ -1,10 +1,9 @@
 -- Which tokens of a row declare names, and which begin what is changed.
-use Rattle.std.specs.Prelude.{ℕ, Bool, true, false, ◌&&◌, ◌||◌, List, [], ◌∷◌, ◌++◌, Option, Some, None, slice_get, if◌then◌else◌}
+use Rattle.std.specs.Prelude.{ℕ, Bool, true, false, List, [], ◌∷◌, Option, Some, None}
 use Rattle.zir_scope.specs.declared.roles.Role.{Role}
 use Rattle.zir_scope.specs.declared.roles.Role.TheVariants as role
 use Rattle.zir_scope.specs.declared.roles.Mark.{Mark}
 use Rattle.zir_scope.specs.declared.roles.Mark.TheVariants as mark
-use Rattle.zir_scope.specs.declared.facts.Fact.{Fact}
 use Rattle.zir_scope.specs.Roles.{role_of, mark_of}
 use Rattle.zir_scope.specs.Syntax.{Syntax, nothing, word, node}
 

@@ -1,7 +1,6 @@
 -- Which names are in scope at each place of a file, and what is found there.
-use Rattle.std.specs.Prelude.{ℕ, Bool, true, false, not, ◌&&◌, ◌||◌, nat_eq, List, [], ◌∷◌, ◌++◌, Option, Some, None, slice_get, if◌then◌else◌}
+use Rattle.std.specs.Prelude.{ℕ, Bool, true, false, not, ◌||◌, nat_eq, List, [], ◌∷◌, ◌++◌, Option, Some, None, slice_get, if◌then◌else◌}
 use Rattle.zig_tree.specs.declared.grammar.Rule.{Rule}
-use Rattle.zig_tree.specs.declared.token.TokenKind.{TokenKind}
 use Rattle.zir_scope.specs.declared.roles.Role.{Role}
 use Rattle.zir_scope.specs.declared.roles.Role.TheVariants as role
 use Rattle.zir_scope.specs.declared.roles.Mark.{Mark}
@@ -366,8 +365,8 @@ walk facts p nothing = []
 walk facts p (word t k more) = word_events facts p t (mark_of k) more ++ walk facts (past_word facts p t (mark_of k)) more
 walk facts p (node r inside more) =
     declared facts p (role_of r) inside ++ changes_within facts (within facts p (role_of r) inside) (role_of r) inside
-      ++ walk facts (within facts p (role_of r) inside) inside ++ end_events (role_of r)
-      ++ walk facts (past_node facts p (role_of r) inside) more
+    ++ walk facts (within facts p (role_of r) inside) inside ++ end_events (role_of r)
+    ++ walk facts (past_node facts p (role_of r) inside) more
 
 -- what is found in a node and behind it
 unfoldable pub visited : List Fact → Place → Role → Syntax → List Event

@@ -1,5 +1,5 @@
 -- What scoping has in hand: what is in scope, and what was found so far.
-use Rattle.std.specs.Prelude.{◌≡◌, ℕ, Bool, List, [], ◌∷◌, ◌++◌, Option, Some, None}
+use Rattle.std.specs.Prelude.{◌≡◌, ℕ, List, [], ◌∷◌, ◌++◌, Option, Some, None}
 use Rattle.zir_scope.specs.declared.bindings.Binding.{Binding}
 use Rattle.zir_scope.specs.declared.place.Exit.{Exit}
 use Rattle.zir_scope.specs.declared.place.Context.{Context}

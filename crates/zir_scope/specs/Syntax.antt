@@ -1,5 +1,4 @@
 -- The tree of a file as a plain tree: tokens and nodes in a row, each node with the row that it holds.
-use Rattle.std.specs.Borrow.{Bor}
 use Rattle.std.specs.Prelude.{ℕ, List, [], ◌∷◌, ◌++◌, slice_get, slice_index_or, Option, Some, None}
 use Rattle.zig_tree.specs.declared.token.Token.{Token}
 use Rattle.zig_tree.specs.declared.token.TokenKind.{TokenKind}

@@ -29,12 +29,7 @@ impl Scope {
     }
 
     /// A name is declared, and comes into scope where it is free.
-    fn declare(
-        &mut self,
-        outline: &Outline<'_>,
-        token: u32,
-        sort: Sort,
-    ) -> Result<(), AllocError>
+    fn declare(&mut self, outline: &Outline<'_>, token: u32, sort: Sort) -> Result<(), AllocError>
         ensures members { OnOk result ((seen self.new).members ≡ (seen self.old).members) }
         ensures exits { OnOk result ((seen self.new).exits ≡ (seen self.old).exits) }
         ensures events { OnOk result ((seen self.new).events ≡ (seen self.old).events ++ spec.declaration outline.now.facts.now sort (seen self.old).members (seen self.old).locals token ∷ []) }

@@ -141,9 +141,7 @@ impl Findings {
             } => self.tell(alloc, tokens, DiagCode::Undeclared, token),
             Event::Declares { token, sort } => self.owe(alloc, tokens, token, sort),
             Event::Repeats { token } => self.tell(alloc, tokens, DiagCode::NameUsed, token),
-            Event::Strays { token } => {
-                self.tell(alloc, tokens, DiagCode::NothingToLeave, token)
-            }
+            Event::Strays { token } => { self.tell(alloc, tokens, DiagCode::NothingToLeave, token) }
             _ => Ok(()),
         }
     }

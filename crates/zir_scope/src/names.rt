@@ -88,11 +88,7 @@ impl Scope {
 
     /// A name comes into scope, where there is one.
     #[tactic(auto, unfolding(crate::specs::Scoping::bind))]
-    pub fn bind_one(
-        &mut self,
-        outline: &Outline<'_>,
-        name: Option<u32>,
-    ) -> Result<(), AllocError>
+    pub fn bind_one(&mut self, outline: &Outline<'_>, name: Option<u32>) -> Result<(), AllocError>
         ensures { OnOk result (seen self.new ≡ record (seen self.old) { locals = spec.bind outline.now.facts.now (seen self.old).members (seen self.old).locals (joined name []) }) }
     {
         match name {

@@ -1,5 +1,5 @@
 // Bindings that hide one another and come to light again.
-use crate::Bindings;
+use crate::bindings::Bindings;
 use std::test::Fail;
 
 #[test]

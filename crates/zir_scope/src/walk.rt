@@ -32,7 +32,11 @@ fn parameter_sort(reading: Reading) -> Sort
 fn local_sort(is_var: bool) -> Sort
     ensures { result ≡ spec.local_sort is_var }
 {
-    if is_var { Sort::Variable } else { Sort::Constant }
+    if is_var {
+        Sort::Variable
+    } else {
+        Sort::Constant
+    }
 }
 
 impl Scope {
@@ -130,7 +134,11 @@ impl Scope {
         let row = outline.kids(node);
         match outline.role(node) {
             Role::Parameter => {
-                self.declare_one(outline, outline.front_name(row), parameter_sort(context.reading))
+                self.declare_one(
+                    outline,
+                    outline.front_name(row),
+                    parameter_sort(context.reading),
+                )
             }
             Role::Statement => {
                 let sort = local_sort(outline.is_var_local(row));

@@ -1,4 +1,4 @@
-use Rattle.std.proofs.Common.{◌≡◌, ◌++◌, ◌∙◌, ap, arith, List, subst, sym, take}
+use Rattle.std.proofs.Common.{◌++◌, ◌∙◌, ap, arith, List, subst, sym, take}
 use Rattle.std.proofs.lemmas.Grind.{common_steps}
 use Rattle.zir_scope.specs.declared.bindings.Binding.{Binding}
 use Rattle.zir_scope.specs.declared.walk.Marks.{Marks}
@@ -17,13 +17,13 @@ visit-returns t c =
     let changed = seen c.changes.new.self in
     let last = seen c.walk.new.self in
     visit_step _ o (seen c.args.self.now) (seen c.declared.new.self) (seen c.enter.new.self) changed last (seen c.cut.new.self) (seen c.behind.new.self)
-        c.args.context inner _ _
-        c.in_ok-declared.ensures c.in_ok-inner.ensures.place c.in_ok-inner.ensures.events c.in_ok-inner.ensures.locals c.in_ok-inner.ensures.members c.in_ok-inner.ensures.exits
-        c.in_ok-changes.ensures
-        (c.in_ok-walk.ensures.events ∙ ap (λ (row : Syntax). changed.events ++ walk o.facts.now (place o changed inner) row) c.kids.ensures.row)
-        c.in_ok-walk.ensures.members c.in_ok-walk.ensures.exits c.in_ok-walk.ensures.locals
-        (c.cut.ensures ∙ ap (λ (m : Marks). record last { locals = take m.locals last.locals; members = take m.members last.members; exits = take m.exits last.exits }) c.marks-marks.ensures)
-        c.in_ok-behind.ensures
+    c.args.context inner _ _
+    c.in_ok-declared.ensures c.in_ok-inner.ensures.place c.in_ok-inner.ensures.events c.in_ok-inner.ensures.locals c.in_ok-inner.ensures.members c.in_ok-inner.ensures.exits
+    c.in_ok-changes.ensures
+    (c.in_ok-walk.ensures.events ∙ ap (λ (row : Syntax). changed.events ++ walk o.facts.now (place o changed inner) row) c.kids.ensures.row)
+    c.in_ok-walk.ensures.members c.in_ok-walk.ensures.exits c.in_ok-walk.ensures.locals
+    (c.cut.ensures ∙ ap (λ (m : Marks). record last { locals = take m.locals last.locals; members = take m.members last.members; exits = take m.exits last.exits }) c.marks-marks.ensures)
+    c.in_ok-behind.ensures
 
 pub walk-loop-rest-preserved-in_ok-word-in-Token : goal.walk-loop-rest-preserved-in_ok-word-in-Token
 unfolding row_in inside_of

@@ -1,7 +1,7 @@
 use Rattle.std.proofs.Common.{◌≡◌, ◌++◌, ◌+◌, ◌*◌, length, true}
 use Rattle.zig_tree.specs.Nodes.{are_earlier}
 use Rattle.zir_scope.specs.Scoping.{walk}
-use Rattle.zir_scope.specs.State.{seen, place, Seen, Extends}
+use Rattle.zir_scope.specs.State.{seen, place, Extends}
 use Rattle.zir_scope.specs.Syntax.{row_in}
 use Rattle.zir_scope.proofs.scope.Scope.+walk.Given as goal
 

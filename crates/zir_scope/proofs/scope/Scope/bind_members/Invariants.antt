@@ -1,8 +1,7 @@
-use Rattle.std.proofs.Common.{◌≡◌, ◌++◌, [], length}
-use Rattle.zir_scope.specs.declared.event.Sort.TheVariants as sort
-use Rattle.zir_scope.specs.Binders.{declarations_in, members_in, names_in}
-use Rattle.zir_scope.specs.Scoping.{declare, repeated, with_members}
-use Rattle.zir_scope.specs.State.{seen, Seen, Extends}
+use Rattle.std.proofs.Common.{◌≡◌, length}
+use Rattle.zir_scope.specs.Binders.{declarations_in}
+use Rattle.zir_scope.specs.Scoping.{with_members}
+use Rattle.zir_scope.specs.State.{seen}
 use Rattle.zir_scope.specs.Syntax.{row_in}
 use Rattle.zir_scope.proofs.scope.Scope.bind_members.Given as goal
 

@@ -1,7 +1,7 @@
 use Rattle.std.proofs.Common.{◌≡◌, length}
 use Rattle.zir_scope.specs.Binders.{names_in}
 use Rattle.zir_scope.specs.Scoping.{bind}
-use Rattle.zir_scope.specs.State.{seen, Seen}
+use Rattle.zir_scope.specs.State.{seen}
 use Rattle.zir_scope.specs.Syntax.{row_in}
 use Rattle.zir_scope.proofs.scope.Scope.bind_row.Given as goal
 

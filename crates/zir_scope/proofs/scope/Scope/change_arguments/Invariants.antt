@@ -1,8 +1,7 @@
-use Rattle.std.proofs.Common.{◌≡◌, ◌++◌, length, true}
-use Rattle.zig_tree.specs.Nodes.{are_earlier}
+use Rattle.std.proofs.Common.{◌≡◌, ◌++◌, length}
 use Rattle.zir_scope.specs.Changes.{argument_bases}
 use Rattle.zir_scope.specs.Scoping.{changed}
-use Rattle.zir_scope.specs.State.{seen, Seen}
+use Rattle.zir_scope.specs.State.{seen}
 use Rattle.zir_scope.specs.Syntax.{row_in}
 use Rattle.zir_scope.proofs.scope.Scope.change_arguments.Given as goal
 

@@ -1,10 +1,9 @@
-use Rattle.std.proofs.Common.{rules, ◌≡◌, ◌++◌, ◌∷◌, [], arith, ◌∙◌, ap, sym, List, ℕ}
+use Rattle.std.proofs.Common.{◌++◌, ◌∷◌, [], arith, ◌∙◌, ap, List}
 use Rattle.std.proofs.lemmas.Grind.{common_steps}
 use Rattle.zir_scope.specs.declared.bindings.Binding.{Binding}
-use Rattle.zir_scope.specs.declared.event.Event.{Event}
 use Rattle.zir_scope.specs.declared.event.Sort.TheVariants as sort
 use Rattle.zir_scope.specs.Binders.{names_in}
-use Rattle.zir_scope.specs.Scoping.{declare, bound_with, declaration}
+use Rattle.zir_scope.specs.Scoping.{bound_with, declaration}
 use Rattle.zir_scope.specs.Syntax.{row_in, inside_of}
 use Rattle.zir_scope.proofs.Prefixes.{prefix_steps, declare_step}
 use Rattle.zir_scope.proofs.scope.Scope.declare_names.Goals as goal
