@@ -1,6 +1,5 @@
 -- Facts about the numbers that digits say.
-use Rattle.std.proofs.Common.{◌≡◌, ℕ, ◌+◌, ◌*◌, ◌-◌, ◌<◌, ◌≤◌, ◌^◌, List, [], ◌∷◌, Option, None, arith, length, get_or, drop, drop-cons, suc}
-use Rattle.std.proofs.lemmas.Bool.{cond_above}
+use Rattle.std.proofs.Common.{◌≡◌, ℕ, ◌+◌, ◌*◌, ◌-◌, ◌<◌, ◌≤◌, ◌^◌, List, [], ◌∷◌, None, arith, length, get_or, drop, drop-cons, suc}
 use Rattle.std.proofs.Common.{Bool, false, ◌==◌, refl, ap, sym, ◌∙◌}
 use Rattle.std.proofs.Math.ListN.{drop_of_length-le}
 use Rattle.zig_tree.specs.declared.token.TokenKind.{TokenKind}

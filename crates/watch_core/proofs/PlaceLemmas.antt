@@ -1,5 +1,5 @@
 -- A place behind a text's end is its end.
-use Rattle.std.proofs.Common.{◌≡◌, ℕ, ◌+◌, ◌≤◌, min, List, length, take, refl, ap, arith}
+use Rattle.std.proofs.Common.{◌≡◌, ℕ, min, List, length, refl}
 use Rattle.std.proofs.lemmas.List.{take_min}
 use Rattle.diag_order.specs.Places.{line_at, col_at}
 

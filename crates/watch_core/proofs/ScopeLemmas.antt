@@ -1,5 +1,5 @@
 -- Few tokens, and diagnostics of one file.
-use Rattle.std.proofs.Common.{◌≡◌, ℕ, zero, suc, ◌+◌, ◌-◌, ◌<◌, ◌≤◌, ◌^◌, min, Bool, List, [], ◌∷◌, length, map, drop, subst, refl, sym, ◌∙◌, ap, arith, Result, Ok, Err, true, length-drop}
+use Rattle.std.proofs.Common.{◌≡◌, ℕ, zero, suc, ◌+◌, ◌-◌, ◌≤◌, min, List, [], ◌∷◌, length, map, drop, subst, refl, sym, ◌∙◌, ap, arith, Result, Ok, Err, true, length-drop}
 use Rattle.std.specs.Str.{bytes_eq}
 use Rattle.zig_tree.specs.declared.token.Token.{Token}
 use Rattle.zig_token.specs.declared.fault.LexFault.{LexFault}
@@ -7,7 +7,7 @@ use Rattle.zig_token.specs.declared.piece.Piece.{Piece}
 use Rattle.zig_token.specs.declared.piece.Piece.TheVariants as pieces
 use Rattle.zig_token.specs.Scan.{tokens_from, tokens_of, piece_at, piece_end, put, token_from, ◌>>=◌}
 use Rattle.zig_tree.specs.TokenBytes.{text_start}
-use Rattle.std.specs.Prelude.{All, Contains, if◌then◌else◌}
+use Rattle.std.specs.Prelude.{All, Contains}
 use Rattle.std.specs.List.{AllByRecursion}
 use Rattle.std.specs.List.Sorted.{IsStrictlySortedBy}
 use Rattle.std.proofs.Common.{◌↔◌}
@@ -17,9 +17,8 @@ use Rattle.zw_base.specs.declared.diag.Found.{Found}
 use Rattle.diag_order.specs.declared.line.Diag.{Diag}
 use Rattle.diag_order.specs.declared.line.Line.{Line}
 use Rattle.diag_order.specs.Order.{line_cmp}
-use Rattle.diag_order.specs.Places.{line_at, col_at}
 use Rattle.diag_order.specs.Sorted.{Texts, text_in, line_of, IsInFile}
-use Rattle.watch_core.specs.Compile.{scope_line, at_byte}
+use Rattle.watch_core.specs.Compile.{scope_line}
 use Rattle.watch_core.specs.InOrder.{in_order}
 use Rattle.watch_core.specs.ScopeDiags.{diag_of, one}
 use Rattle.watch_core.proofs.InOrder.{lines_in_order}

@@ -1,5 +1,5 @@
 -- What a compilation answers: the files as they stand, from the root on.
-use Rattle.std.specs.Prelude.{◌≡◌, ℕ, ◌+◌, ◌-◌, ◌*◌, ◌<◌, pos, Bool, true, false, if◌then◌else◌, nat_lt, List, [], ◌∷◌, length, map, codes, slice_get, Option, None, Some, Result, Ok, Err}
+use Rattle.std.specs.Prelude.{ℕ, ◌+◌, ◌-◌, ◌*◌, pos, true, if◌then◌else◌, nat_lt, List, [], ◌∷◌, length, map, codes, slice_get, Option, None, Some, Result, Ok, Err}
 use Rattle.std.specs.Int.{w32, cast_signed}
 use Rattle.zw_base.specs.Outside.{file_at}
 use Rattle.zw_base.specs.declared.diag.DiagCode.TheVariants.{NotBuilt, BadByte, BadEscape, OpenString, BadNumber, UnexpectedToken, TooDeep, RootMissing, ModuleTooLarge}
@@ -17,8 +17,6 @@ use Rattle.zig_parse.specs.declared.fault.SyntaxFault.TheVariants as syntax
 use Rattle.zig_parse.specs.Growth.{parse_of}
 use Rattle.wasm_form.specs.declared.module.Module.{Module}
 use Rattle.wasm_form.specs.declared.module.FnType.{FnType}
-use Rattle.wasm_form.specs.declared.module.TypeIndex.{TypeIndex}
-use Rattle.wasm_form.specs.declared.module.Memory.{Memory}
 use Rattle.wasm_form.specs.declared.module.Global.{Global}
 use Rattle.wasm_form.specs.declared.module.Export.{Export}
 use Rattle.wasm_form.specs.declared.module.Code.{Code}

@@ -1,4 +1,4 @@
-use Rattle.std.proofs.Common.{◌≡◌, arith, rules, length}
+use Rattle.std.proofs.Common.{arith}
 use Rattle.watch_core.proofs.FormLemmas.{kinds_end, kinds_short}
 use Rattle.watch_core.proofs.form.have_kinds.Goals as goal
 

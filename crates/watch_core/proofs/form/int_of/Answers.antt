@@ -1,4 +1,4 @@
-use Rattle.std.proofs.Common.{◌≡◌, ◌<◌, length, arith}
+use Rattle.std.proofs.Common.{◌<◌, length, arith}
 use Rattle.watch_core.proofs.FormLemmas.{value_from-step, too_large}
 use Rattle.watch_core.proofs.form.int_of.Goals as goal
 

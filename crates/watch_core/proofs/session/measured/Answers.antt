@@ -1,4 +1,4 @@
-use Rattle.std.proofs.Common.{◌≡◌, ◌≤◌, ap, sym, ◌∙◌, arith, rules, length}
+use Rattle.std.proofs.Common.{arith}
 use Rattle.watch_core.proofs.FilesLemmas.{length_new, total_new, length_same, total_same}
 use Rattle.watch_core.proofs.session.measured.Goals as goal
 

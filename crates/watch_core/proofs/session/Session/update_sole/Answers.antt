@@ -1,4 +1,4 @@
-use Rattle.std.proofs.Common.{◌≡◌, ◌≤◌, arith}
+use Rattle.std.proofs.Common.{arith}
 use Rattle.watch_core.proofs.FilesLemmas.{text_within}
 use Rattle.watch_core.proofs.session.Session.update_sole.Goals as goal
 
