@@ -18,3 +18,5 @@ pub mod Standing
 pub mod Closing
 pub mod Sound
 pub mod Refusals
+pub mod Ranks
+pub mod Preferred
