@@ -20,3 +20,4 @@ pub mod Sound
 pub mod Refusals
 pub mod Ranks
 pub mod Preferred
+pub mod Names
