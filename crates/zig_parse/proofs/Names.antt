@@ -1,12 +1,10 @@
 -- A refusal names a token of the list and its kind.
-use Rattle.std.proofs.Common.{◌≡◌, ℕ, zero, suc, ◌+◌, ◌<◌, ◌≤◌, Bool, true, false, List, [], ◌∷◌, length, Option, Some, None, Result, Ok, Err, refl, sym, ◌∙◌, ap, subst, arith}
-use Rattle.std.specs.Prelude.{if◌then◌else◌, nat_eq, replicate, slice_get}
+use Rattle.std.proofs.Common.{◌≡◌, ℕ, zero, suc, ◌+◌, ◌<◌, Bool, true, false, List, [], ◌∷◌, length, Result, Ok, Err, refl, sym, ap, subst, arith}
+use Rattle.std.specs.Prelude.{if◌then◌else◌, nat_eq, replicate}
 use Rattle.std.proofs.lemmas.Option.{slice_get_past}
 use Rattle.zig_tree.specs.declared.token.Token.{Token}
-use Rattle.zig_tree.specs.declared.token.TokenKind.{TokenKind}
 use Rattle.zig_tree.specs.declared.token.TokenKind.TheVariants.{End}
 use Rattle.zig_tree.specs.declared.tree.Node.{Node}
-use Rattle.zig_parse.specs.declared.choice.Look.{Look}
 use Rattle.zig_parse.specs.declared.fault.SyntaxFault.{SyntaxFault}
 use Rattle.zig_parse.specs.declared.fault.SyntaxFault.TheVariants.{Unexpected, TooDeep, OutOfMemory}
 use Rattle.zig_parse.specs.declared.survey.Verdict.{Verdict}
@@ -15,7 +13,7 @@ use Rattle.zig_parse.specs.declared.state.State.{State}
 use Rattle.zig_parse.specs.Threads.{after_read}
 use Rattle.zig_parse.specs.Nodes.{with_token}
 use Rattle.zig_parse.specs.Surveys.{Fails, first_state, judged, kind_of, look_at, next_marks, next_state, next_verdict, surveyed}
-use Rattle.zig_parse.specs.Growth.{Grown, Ready, all_read, all_shut, grown_from, is_second, nodes_or, parse_of, read_one, read_where, ready, sprout, token_read, whole, ◌>>=◌}
+use Rattle.zig_parse.specs.Growth.{Grown, all_read, all_shut, grown_from, is_second, nodes_or, read_one, ready, sprout, whole, ◌>>=◌}
 use Rattle.zig_parse.specs.Trees.{NamesToken}
 
 named : (tokens : List Token) (at : ℕ) → at < length tokens → NamesToken tokens (Unexpected (look_at tokens at).kind at)

@@ -1,21 +1,19 @@
 -- What the rules derive has a tree that is preferred: it can't be that none is.
-use Rattle.std.proofs.Common.{◌≡◌, ℕ, zero, suc, ◌+◌, ◌-◌, ◌*◌, ◌<◌, ◌≤◌, Bool, true, false, ◌&&◌, ◌||◌, cond, ◌⊎◌, inl, inr, List, [], ◌∷◌, ◌++◌, length, refl, sym, ◌∙◌, ap, subst, arith}
+use Rattle.std.proofs.Common.{◌≡◌, ℕ, zero, suc, ◌+◌, ◌-◌, ◌*◌, ◌<◌, ◌≤◌, Bool, true, false, ◌||◌, ◌⊎◌, inl, inr, List, [], ◌∷◌, ◌++◌, length, refl, sym, ◌∙◌, ap, subst, arith}
 use Rattle.std.specs.Prelude.{if◌then◌else◌, nat_lt, not}
 use Rattle.std.proofs.lemmas.Bool.{and_parts, cases_lt, cases_Bool, ltb-true, or_cases, eq-eqb}
 use Rattle.zig_tree.specs.declared.token.TokenKind.{TokenKind}
-use Rattle.zig_tree.specs.declared.grammar.Rule.{Rule}
 use Rattle.zig_tree.specs.declared.grammar.Rule.TheVariants as rule
 use Rattle.zig_tree.specs.declared.grammar.Group.{Group}
 use Rattle.zig_tree.specs.declared.grammar.Group.TheVariants as group
-use Rattle.zig_tree.specs.declared.grammar.TokenClass.{TokenClass}
 use Rattle.zig_tree.specs.declared.grammar.When.{When}
 use Rattle.zig_tree.specs.declared.grammar.When.TheVariants as when
 use Rattle.zig_tree.specs.declared.grammar.Part.{Part}
 use Rattle.zig_tree.specs.declared.grammar.Part.TheVariants as part
-use Rattle.zig_tree.specs.Kinds.{has_kind, is_kind, is_group, number_of, number_of_group}
+use Rattle.zig_tree.specs.Kinds.{is_kind, is_group, number_of, number_of_group}
 use Rattle.zig_tree.specs.Grammar.{Alternative, holds, group_rows, rule_rows}
-use Rattle.zig_tree.specs.GrammarSentences.{Pieces, nothing, word, node, followed, made, next_kind, second_kind, first_that_holds, with_shared, open_at, Among, Derives, derives_none, derives_token, derives_one_of, derives_group, derives_rule, IsFirst, IsShortest, is_division, Chosen, chooses_none, chooses_token, chooses_one_of, chooses_group, chooses_statements, chooses_rule, Sentence}
-use Rattle.zig_parse.proofs.Derived.{Taken, none_derived, token_derived, class_derived, group_derived, rule_derived, split_derived, open_is_row, first_is_row, row_tested, no_longer, each_row}
+use Rattle.zig_tree.specs.GrammarSentences.{Pieces, nothing, word, followed, made, next_kind, second_kind, first_that_holds, with_shared, open_at, Among, Derives, derives_none, IsFirst, IsShortest, is_division, Chosen, chooses_none, chooses_token, chooses_one_of, chooses_group, chooses_statements, chooses_rule, Sentence}
+use Rattle.zig_parse.proofs.Derived.{none_derived, token_derived, class_derived, group_derived, rule_derived, split_derived, open_is_row, row_tested, no_longer, each_row}
 use Rattle.zig_parse.proofs.Shapes.{fills}
 use Rattle.zig_parse.proofs.Balance.{reads_some}
 use Rattle.zig_parse.proofs.Ranks.{rank_of, rank_of_rule, rank_of_group, is_ranked, row_ranked, is_other, is_apart_from, are_apart, rule_ranked, group_ranked, rule_rank_small, group_rank_small, rule_apart, group_apart}
@@ -106,8 +104,13 @@ preferred l tokens next a p (one_open x) (inl e) d = found (record { a = x; insi
 preferred l tokens next a p (one_open x) (inr m) d = elim m [ ]
 preferred l tokens next a p (two_open x y n) (inl e) d = found (record { a = x; inside = p; among = inl refl; first = left_first x y tokens next n; derived = subst (λ (c : Alternative). Derives c.parts tokens next p) e d })
 preferred l tokens next a p (two_open x y n) (inr (inl e)) d =
-    λ k. k (record { a = y; inside = p; among = inr (inl refl); derived = subst (λ (c : Alternative). Derives c.parts tokens next p) e d;
-      first = right_first x y tokens next (λ i f. k (record { a = x; inside = i; among = inl refl; first = left_first x y tokens next n; derived = f })) })
+    λ k. k (record {
+      a = y;
+      inside = p;
+      among = inr (inl refl);
+      derived = subst (λ (c : Alternative). Derives c.parts tokens next p) e d;
+      first = right_first x y tokens next (λ i f. k (record { a = x; inside = i; among = inl refl; first = left_first x y tokens next n; derived = f }));
+    })
 preferred l tokens next a p (two_open x y n) (inr (inr m)) d = elim m [ ]
 
 -- ---- the shortest first statement
@@ -202,7 +205,7 @@ row_tree bound rank whole before (p ∷ ps) tokens rest x smaller fits h l s d =
     let b = no_longer ps t.0 rest t.2 t.5 in
     after (smaller p tokens t.0 t.1 t.4 (part_smaller bound rank whole before p ps tokens t.0 rest t.1 t.2 fits u.0 l s t.4 t.5))
     (λ first. after (row_tree bound rank whole (before || fills (p ∷ [])) ps t.0 rest t.2 smaller fits u.1 (omega arith) (after_first whole before p tokens t.0 rest t.1 l s t.4 b) t.5)
-      (λ later. found (first_chosen p ps tokens t.0 rest first.0 later.0 first.1 later.1)))
+    (λ later. found (first_chosen p ps tokens t.0 rest first.0 later.0 first.1 later.1)))
 
 -- ---- each part
 
@@ -226,11 +229,11 @@ division_tree bound tokens rest x d smaller fits =
     let t = split_derived (part.Rule rule.Statement ∷ []) (part.Group group.Statements ∷ []) tokens rest x d in
     after (shortest (length tokens) tokens rest (record { next = t.0; first = t.1; more = t.2; statement = t.4; others = t.5 }) (omega arith))
     (λ e.
-      (let less = reads_some (part.Rule rule.Statement ∷ []) tokens e.0.next e.0.first e.0.statement refl in
-      let low = no_longer (part.Group group.Statements ∷ []) e.0.next rest e.0.more e.0.others in
-      after (smaller (part.Rule rule.Statement) tokens e.0.next e.0.first e.0.statement (omega arith))
-      (λ q. after (smaller (part.Group group.Statements) e.0.next rest e.0.more e.0.others (omega arith))
-        (λ o. found (followed q.0 (followed o.0 nothing), chooses_statements [] tokens e.0.next rest rest q.0 o.0 nothing e.1 q.1 o.1 (chooses_none rest))))))
+    (let less = reads_some (part.Rule rule.Statement ∷ []) tokens e.0.next e.0.first e.0.statement refl in
+    let low = no_longer (part.Group group.Statements ∷ []) e.0.next rest e.0.more e.0.others in
+    after (smaller (part.Rule rule.Statement) tokens e.0.next e.0.first e.0.statement (omega arith))
+    (λ q. after (smaller (part.Group group.Statements) e.0.next rest e.0.more e.0.others (omega arith))
+    (λ o. found (followed q.0 (followed o.0 nothing), chooses_statements [] tokens e.0.next rest rest q.0 o.0 nothing e.1 q.1 o.1 (chooses_none rest))))))
 
 group_tree : (bound : ℕ) (g : Group) (tokens rest : List TokenKind) (f : Preferred (open_at tokens (group_rows g)) tokens rest) → (is_division g f.a.parts ≡ true) ⊎ (is_division g f.a.parts ≡ false) → Smaller bound
     → (length tokens - length rest) * 16 + rank_of_group g ≤ bound → HasTree (part.Group g ∷ []) tokens rest
@@ -241,7 +244,7 @@ group_tree bound g tokens rest f (inl h) smaller fits =
     subst (λ (k : Group). HasTree (part.Group k ∷ []) tokens rest) (sym same) (division_tree bound tokens rest f.inside (subst (λ (l : List Part). Derives l tokens rest f.inside) row f.derived) smaller ranked)
 group_tree bound g tokens rest f (inr h) smaller fits =
     after (row_tree bound (rank_of_group g) (length tokens - length rest) false f.a.parts tokens rest f.inside smaller fits
-      (row_tested (row_ranked (rank_of_group g)) f.a (group_rows g) (group_ranked g) (open_is_row tokens f.a (group_rows g) f.among)) (omega arith) (λ e. absurd (cc)) f.derived)
+    (row_tested (row_ranked (rank_of_group g)) f.a (group_rows g) (group_ranked g) (open_is_row tokens f.a (group_rows g) f.among)) (omega arith) (λ e. absurd (cc)) f.derived)
     (λ q. found (followed q.0 nothing, chooses_group g f.a [] tokens rest rest q.0 nothing f.among h f.first q.1 (chooses_none rest)))
 
 pub part_tree : (bound : ℕ) → Smaller bound
@@ -257,8 +260,8 @@ part_tree (suc bound) (part.Rule r) tokens rest x d h =
     let end = none_derived t.next rest t.later t.others in
     after (preferred (open_at tokens (rule_rows r)) tokens rest t.a t.inside (open_form tokens (rule_rows r) (rule_apart r)) t.among (subst (λ (l : List TokenKind). Derives t.a.parts tokens l t.inside) end.0 t.first))
     (λ f. after (row_tree bound (rank_of_rule r) (length tokens - length rest) false f.a.parts tokens rest f.inside (λ p k l y e i. part_tree bound p k l y e i) (omega arith)
-      (row_tested (row_ranked (rank_of_rule r)) f.a (rule_rows r) (rule_ranked r) (open_is_row tokens f.a (rule_rows r) f.among)) (omega arith) (λ e. absurd (cc)) f.derived)
-      (λ q. found (followed (made r q.0) nothing, chooses_rule r f.a [] tokens rest rest q.0 nothing f.among f.first q.1 (chooses_none rest))))
+    (row_tested (row_ranked (rank_of_rule r)) f.a (rule_rows r) (rule_ranked r) (open_is_row tokens f.a (rule_rows r) f.among)) (omega arith) (λ e. absurd (cc)) f.derived)
+    (λ q. found (followed (made r q.0) nothing, chooses_rule r f.a [] tokens rest rest q.0 nothing f.among f.first q.1 (chooses_none rest))))
 part_tree (suc bound) (part.Group g) tokens rest x d h =
     let t = (group_derived g [] tokens rest x d).0 in
     let end = none_derived t.next rest t.later t.others in
