@@ -21,3 +21,4 @@ pub mod Refusals
 pub mod Ranks
 pub mod Preferred
 pub mod Names
+pub mod Costs

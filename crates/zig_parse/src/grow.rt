@@ -9,13 +9,15 @@ ghost use Rattle.zig_parse.specs.Surveys.{Gives};
 use crate::built::Built;
 use crate::choice::{Choice, Look, group_choice, rule_choice};
 use crate::fault::SyntaxFault;
-use crate::settle::MOVES;
 use crate::state::look_at;
 use crate::survey::begin;
 use crate::thread::{Move, Thread};
 use std::alloc::{AllocError, Global};
 use zig_tree::{Part, Rule, Token, TokenKind, Tree};
 use zw_base::Seq;
+
+/// How many moves the one thread has at a token at most.
+const MOVES: u32 = 10_000_000;
 
 /// The one thread, and the nodes so far.
 #[derive(Debug, Drop)]
