@@ -3,6 +3,7 @@
 use Rattle.std.proofs.Common.{◌≡◌, ℕ, zero, suc, ◌+◌, ◌-◌, ◌*◌, ◌<◌, ◌≤◌, Bool, true, false, ◌&&◌, ◌||◌, cond, ◌⊎◌, inl, inr, List, [], ◌∷◌, ◌++◌, map, length, Option, Some, None, refl, sym, ◌∙◌, ap, subst, arith, append_assoc, append-nil}
 use Rattle.std.specs.Prelude.{if◌then◌else◌, nat_lt, nat_le, not, min}
 use Rattle.std.proofs.lemmas.Bool.{and_parts, or_cases, ltb-true, leb-true, ltb-false, not-true, cases_Bool}
+use Rattle.zig_tree.specs.declared.token.Token.{Token}
 use Rattle.zig_tree.specs.declared.token.TokenKind.{TokenKind}
 use Rattle.zig_tree.specs.declared.token.TokenKind.TheVariants.{LeftBrace}
 use Rattle.zig_tree.specs.declared.grammar.Rule.{Rule}
@@ -15,7 +16,7 @@ use Rattle.zig_tree.specs.declared.grammar.Part.{Part}
 use Rattle.zig_tree.specs.declared.grammar.Part.TheVariants as part
 use Rattle.zig_tree.specs.Kinds.{has_kind, is_kind}
 use Rattle.zig_tree.specs.Grammar.{Alternative, holds, group_rows, rule_rows}
-use Rattle.zig_tree.specs.GrammarSentences.{next_kind, second_kind, first_that_holds, with_shared, open_at}
+use Rattle.zig_tree.specs.GrammarSentences.{next_kind, second_kind, first_that_holds, with_shared, open_at, Among}
 use Rattle.zig_parse.specs.declared.choice.Look.{Look}
 use Rattle.zig_parse.specs.declared.thread.Frame.{Frame}
 use Rattle.zig_parse.specs.declared.thread.Item.{Item}
@@ -26,9 +27,11 @@ use Rattle.zig_parse.specs.Choices.{choices}
 use Rattle.zig_parse.specs.Stack.{rest, with_first}
 use Rattle.zig_parse.specs.Threads.{closed, closed_from, gained, hardened, is_braced, is_never_alone, item, met, met_from, opened, part_height, passed, put, replaced}
 use Rattle.zig_parse.specs.Moves.{at_choice, move_at, move_from, moving, moving_by, moves_for, moves_for_all, next_move, readers, reading, settled, settled_all, spread}
-use Rattle.zig_parse.proofs.Derived.{each_row}
+use Rattle.zig_parse.specs.Growth.{Grown, Ready, known, known_by, moved, moved_by, picked, ready, ready_by, shut, shut_from, stuck_at, swapped, with_thread}
+use Rattle.zig_parse.proofs.Derived.{each_row, open_is_row}
+use Rattle.zig_parse.proofs.Tokens.{ready_known}
 use Rattle.zig_parse.proofs.Spelled.{here}
-use Rattle.zig_parse.proofs.Picks.{parts_in, choices_as}
+use Rattle.zig_parse.proofs.Picks.{parts_in, choices_as, picked_open}
 
 abbrev pub cost_of_rule : Rule → ℕ
 cost_of_rule rule.Root = 11
@@ -602,9 +605,9 @@ rule_front : (look : Look) (apart : Bool) (n : ℕ) (is : List Item) (r : Rule) 
 rule_front look apart n [] r h = absurd (cc)
 rule_front look apart n (i ∷ is) r h = front_by look apart n i is (move.Rule r) (part.Rule r) (nat_lt i.level n) refl h (λ e. cc) (rule_at look apart i.part r)
 
-group_front : (look : Look) (apart : Bool) (n : ℕ) (is : List Item) (g : Group) → move_from look apart n is ≡ move.Group g → IsFront n is (part.Group g)
-group_front look apart n [] g h = absurd (cc)
-group_front look apart n (i ∷ is) g h = front_by look apart n i is (move.Group g) (part.Group g) (nat_lt i.level n) refl h (λ e. cc) (group_at look apart i.part g)
+group_front_at : (look : Look) (apart : Bool) (n : ℕ) (is : List Item) (g : Group) → move_from look apart n is ≡ move.Group g → IsFront n is (part.Group g)
+group_front_at look apart n [] g h = absurd (cc)
+group_front_at look apart n (i ∷ is) g h = front_by look apart n i is (move.Group g) (part.Group g) (nat_lt i.level n) refl h (λ e. cc) (group_at look apart i.part g)
 
 -- what a thread has before, and after its first part is replaced
 front_work : (n : ℕ) (is : List Item) (p : Part) (f : IsFront n is p) → work n is ≡ cost_of p + (if may_be_nothing p then work n f.is else 0)
@@ -694,7 +697,7 @@ moving_by_less look at t (move.Rule r) h =
       (λ ps some. (rule_work r ps t (length t.frames) f refl some, rule_work r ps (at_choice at t) (length t.frames) f refl some))
       (λ ps l some. (let w = rule_work r ps t (length t.frames) f refl (or_true (has_some ps) some) in omega arith)))
 moving_by_less look at t (move.Group g) h =
-    let f = group_front look true (length t.frames) t.items g h in
+    let f = group_front_at look true (length t.frames) t.items g h in
     let rows = open_at (look.kind ∷ look.next ∷ []) (group_rows g) in
     let whole = front_work (length t.frames) t.items (part.Group g) f in
     subst (λ (l : List (List Part)). total_work (spread at None l t) ≤ work_of t) (sym (choices_at look (group_rows g)))
@@ -726,6 +729,10 @@ settled_enough (suc n) (suc m) look at (t ∷ ts) h k =
     let j = total_joined (moving look at t) ts in
     ap (λ (x : List Thread). readers look t ++ x) (settled_enough n m look at (moving look at t ++ ts) (omega arith) (omega arith))
 
+pub more_moves : (n : ℕ) (look : Look) (at : ℕ) (ts : List Thread) → moves_for_all ts ≤ n → settled n look at ts ≡ settled_all look at ts
+unfolding settled_all
+more_moves n look at ts h = let w = enough_work ts in settled_enough n (moves_for_all ts) look at ts (omega arith) w
+
 pub settled_one : (look : Look) (at : ℕ) (t : Thread) (ts : List Thread) → settled_all look at (t ∷ ts) ≡ readers look t ++ settled_all look at (moving look at t ++ ts)
 unfolding settled_all settled
 settled_one look at t ts =
@@ -753,3 +760,115 @@ settled_less look at old new left t eo en =
     let l = moving_less look at t in
     let j = total_joined (moving look at t) left in
     omega (arith, ap total_work eo, ap total_work en)
+
+-- ---- the one thread of the second pass
+
+rows_member : (bound : ℕ) (empty : Bool) (a : Alternative) (rows : List Alternative) → rows_fit bound empty rows ≡ true → Among a rows → row_fits bound empty a ≡ true
+rows_member bound empty a [] h m = elim m [ ]
+rows_member bound empty a (b ∷ more) h (inl e) = subst (λ (x : Alternative). row_fits bound empty x ≡ true) (sym e) (and_parts (row_fits bound empty b) (pairs_fit bound b b.at more && rows_fit bound empty more) h).0
+rows_member bound empty a (b ∷ more) h (inr m) =
+    rows_member bound empty a more (and_parts (pairs_fit bound b b.at more) (rows_fit bound empty more) (and_parts (row_fits bound empty b) (pairs_fit bound b b.at more && rows_fit bound empty more) h).1).1 m
+
+-- an alternative of a rule costs less than the rule and is not empty
+pub rule_row_fits : (tokens : List TokenKind) (r : Rule) (a : Alternative) → Among a (open_at tokens (rule_rows r)) → (front_cost a.parts < cost_of_rule r) × (has_some a.parts ≡ true)
+rule_row_fits tokens r a m =
+    let s = and_parts (nat_lt (front_cost a.parts) (cost_of_rule r)) (has_some a.parts || false) (rows_member (cost_of_rule r) false a (rule_rows r) (rule_costs r) (open_is_row tokens a (rule_rows r) m)) in
+    (ltb-true (front_cost a.parts) (cost_of_rule r) s.0, or_true (has_some a.parts) s.1)
+
+pub group_row_fits : (tokens : List TokenKind) (g : Group) (a : Alternative) → Among a (open_at tokens (group_rows g)) → (front_cost a.parts < cost_of_group g) × ((has_some a.parts || may_be_empty g) ≡ true)
+group_row_fits tokens g a m =
+    let s = and_parts (nat_lt (front_cost a.parts) (cost_of_group g)) (has_some a.parts || may_be_empty g) (rows_member (cost_of_group g) (may_be_empty g) a (group_rows g) (group_costs g) (open_is_row tokens a (group_rows g) m)) in
+    (ltb-true (front_cost a.parts) (cost_of_group g) s.0, s.1)
+
+joined_by : (b h : Bool) (c f x y : ℕ) → x ≡ f + (if h then 0 else y) → c + (if b then x else 0) ≡ c + (if b then f else 0) + (if not b || h then 0 else y)
+joined_by true h c f x y e = omega arith
+joined_by false h c f x y e = omega arith
+
+front_joined : (ps qs : List Part) → front_cost (ps ++ qs) ≡ front_cost ps + (if has_some ps then 0 else front_cost qs)
+front_joined [] qs = omega arith
+front_joined (p ∷ ps) qs = joined_by (may_be_nothing p) (has_some ps) (cost_of p) (front_cost ps) (front_cost (ps ++ qs)) (front_cost qs) (front_joined ps qs)
+
+-- parts with an alternative in place of a group cost less
+pub group_front : (tokens : List TokenKind) (g : Group) (a : Alternative) (qs : List Part) → Among a (open_at tokens (group_rows g)) → front_cost (a.parts ++ qs) ≤ front_cost (part.Group g ∷ qs)
+group_front tokens g a qs m =
+    let f = group_row_fits tokens g a m in
+    let l = less_by (has_some a.parts) (may_be_empty g) (front_cost a.parts) (cost_of_group g) (front_cost qs) (front_cost (a.parts ++ qs)) f.0 f.1 (front_joined a.parts qs) in
+    omega arith
+
+shut_work : (tokens : List Token) (g : Grown) (fs : List Frame) → work_of (shut_from tokens g fs).thread ≡ work_of (closed g.thread)
+shut_work tokens g [] = refl
+shut_work tokens g (f ∷ fs) = refl
+
+swapped_rule : (look : Look) (second : Bool) (g : Grown) (r : Rule) (o : Option (List Part)) → next_move look false g.thread ≡ move.Rule r → picked second (choices look (rule_rows r)) ≡ o → stuck_at o ≡ None → suc (work_of (swapped (Some r) o g).thread) ≤ work_of g.thread
+unfolding next_move
+swapped_rule look second g r None h e k = absurd (cc)
+swapped_rule look second g r (Some ps) h e k =
+    let f = rule_front look false (length g.thread.frames) g.thread.items r h in
+    let p = picked_open (look.kind ∷ look.next ∷ []) second (rule_rows r) ps e in
+    let fits = rule_row_fits (look.kind ∷ look.next ∷ []) r p.0 p.1 in
+    let w = rule_work r p.0.parts g.thread (length g.thread.frames) f refl fits.1 in
+    subst (λ (x : List Part). suc (work_of (replaced (Some r) x g.thread)) ≤ work_of g.thread) p.2 (omega (arith, w, rule_whole r g.thread f, fits.0))
+
+swapped_group : (look : Look) (second : Bool) (g : Grown) (k : Group) (o : Option (List Part)) → next_move look false g.thread ≡ move.Group k → picked second (choices look (group_rows k)) ≡ o → stuck_at o ≡ None → suc (work_of (swapped None o g).thread) ≤ work_of g.thread
+unfolding next_move
+swapped_group look second g k None h e s = absurd (cc)
+swapped_group look second g k (Some ps) h e s =
+    let f = group_front_at look false (length g.thread.frames) g.thread.items k h in
+    let p = picked_open (look.kind ∷ look.next ∷ []) second (group_rows k) ps e in
+    let fits = group_row_fits (look.kind ∷ look.next ∷ []) k p.0 p.1 in
+    let l = less_by (has_some p.0.parts) (may_be_empty k) (front_cost p.0.parts) (cost_of_group k) (work (length g.thread.frames) f.is) (work_of (replaced None p.0.parts g.thread)) fits.0 fits.1 (group_work k p.0.parts g.thread f) in
+    subst (λ (x : List Part). suc (work_of (replaced None x g.thread)) ≤ work_of g.thread) p.2 (omega (arith, l, front_work (length g.thread.frames) g.thread.items (part.Group k) f))
+
+moved_by_less : (tokens : List Token) (look : Look) (second : Bool) (g : Grown) (m : Move) → next_move look false g.thread ≡ m → known_by look second m ≡ None → suc (work_of (moved_by tokens look second g m).thread) ≤ work_of g.thread
+unfolding shut
+moved_by_less tokens look second g move.Stop h k = absurd (cc)
+moved_by_less tokens look second g move.Read h k = absurd (cc)
+moved_by_less tokens look second g move.Close h k = omega (arith, shut_work tokens g g.thread.frames, close_less look false g.thread h)
+moved_by_less tokens look second g (move.Rule r) h k = swapped_rule look second g r (picked second (choices look (rule_rows r))) h refl k
+moved_by_less tokens look second g (move.Group j) h k = swapped_group look second g j (picked second (choices look (group_rows j))) h refl k
+
+moved_less : (tokens : List Token) (look : Look) (second : Bool) (g : Grown) → known look second g ≡ None → suc (work_of (moved tokens look second g).thread) ≤ work_of g.thread
+unfolding moved known
+moved_less tokens look second g k = moved_by_less tokens look second g (next_move look false g.thread) refl k
+
+ready_same : (o : Option Bool) (g : Grown) (x y : Ready) → (o ≡ None → x ≡ y) → ready_by o g x ≡ ready_by o g y
+ready_same None g x y f = f refl
+ready_same (Some b) g x y f = refl
+
+-- more moves change nothing
+ready_enough : (n m : ℕ) (tokens : List Token) (look : Look) (second : Bool) (g : Grown) → work_of g.thread < n → work_of g.thread < m → ready n tokens look second g ≡ ready m tokens look second g
+unfolding ready
+ready_enough zero m tokens look second g h k = absurd (omega arith)
+ready_enough (suc n) zero tokens look second g h k = absurd (omega arith)
+ready_enough (suc n) (suc m) tokens look second g h k =
+    ready_same (known look second g) (moved tokens look second g) (ready n tokens look second (moved tokens look second g)) (ready m tokens look second (moved tokens look second g))
+    (λ e. (let l = moved_less tokens look second g e in ready_enough n m tokens look second (moved tokens look second g) (omega arith) (omega arith)))
+
+enough_for : (t : Thread) → work_of t < moves_for t
+enough_for t = let b = work_bound (length t.frames) t.items in omega arith
+
+ready_none : (n : ℕ) (tokens : List Token) (look : Look) (second : Bool) (g : Grown) → known look second g ≡ None → ready (suc n) tokens look second g ≡ ready n tokens look second (moved tokens look second g)
+unfolding ready
+ready_none n tokens look second g e = ap (λ (o : Option Bool). ready_by o (moved tokens look second g) (ready n tokens look second (moved tokens look second g))) e
+
+-- after a move that tells nothing
+pub ready_next : (tokens : List Token) (look : Look) (second : Bool) (g next : Grown) (whole : Ready) → next ≡ moved tokens look second g → None ≡ known look second g → ready (moves_for g.thread) tokens look second g ≡ whole
+    → ready (moves_for next.thread) tokens look second next ≡ whole
+ready_next tokens look second g next whole e k h =
+    let less = moved_less tokens look second g (sym k) in
+    let some = enough_for g.thread in
+    let one : moves_for g.thread ≡ suc (moves_for g.thread - 1) = omega arith in
+    let step : ready (moves_for g.thread) tokens look second g ≡ ready (moves_for g.thread - 1) tokens look second (moved tokens look second g) =
+        ap (λ (n : ℕ). ready n tokens look second g) one ∙ ready_none (moves_for g.thread - 1) tokens look second g (sym k) in
+    ap (λ (x : Grown). ready (moves_for x.thread) tokens look second x) e
+    ∙ ready_enough (moves_for (moved tokens look second g).thread) (moves_for g.thread - 1) tokens look second (moved tokens look second g) (enough_for (moved tokens look second g).thread) (omega arith) ∙ sym step ∙ h
+
+pub ready_less : (tokens : List Token) (look : Look) (second : Bool) (g next : Grown) → next ≡ moved tokens look second g → None ≡ known look second g → work_of next.thread < work_of g.thread
+ready_less tokens look second g next e k = let l = moved_less tokens look second g (sym k) in omega (arith, ap (λ (x : Grown). work_of x.thread) e)
+
+-- after one that tells
+pub ready_told : (tokens : List Token) (look : Look) (second b : Bool) (g next : Grown) (whole : Ready) → next ≡ moved tokens look second g → Some b ≡ known look second g → ready (moves_for g.thread) tokens look second g ≡ whole → (b ≡ whole.fits) × (next ≡ whole.grown)
+ready_told tokens look second b g next whole e k h =
+    let is = ready_known (moves_for g.thread) tokens look second b g (omega arith) (sym k) in
+    let same : record { fits = b; grown = moved tokens look second g } ≡ whole = sym is ∙ h in
+    (ap (λ (r : Ready). r.fits) same, e ∙ ap (λ (r : Ready). r.grown) same)

@@ -12,6 +12,7 @@ use Rattle.zig_parse.specs.declared.survey.Verdict.TheVariants as verdict
 use Rattle.zig_parse.specs.declared.state.State.{State}
 use Rattle.zig_parse.specs.Threads.{after_read}
 use Rattle.zig_parse.specs.Nodes.{with_token}
+use Rattle.zig_parse.specs.Moves.{moves_for}
 use Rattle.zig_parse.specs.Surveys.{Fails, first_state, judged, kind_of, look_at, next_marks, next_state, next_verdict, surveyed}
 use Rattle.zig_parse.specs.Growth.{Grown, all_read, all_shut, grown_from, is_second, nodes_or, read_one, ready, sprout, whole, ◌>>=◌}
 use Rattle.zig_parse.specs.Trees.{NamesToken}
@@ -50,7 +51,7 @@ read_named tokens at g true false e l h = absurd (cc)
 one_named : (tokens : List Token) (at : ℕ) (second : Bool) (g : Grown) (e : SyntaxFault) → at < length tokens → read_one at tokens (look_at tokens at) second g ≡ Err e → NamesToken tokens e
 unfolding read_one
 one_named tokens at second g e l h =
-    let r = ready 10000000 tokens (look_at tokens at) second g in
+    let r = ready (moves_for g.thread) tokens (look_at tokens at) second g in
     read_named tokens at (record { thread = after_read r.grown.thread; parts = with_token at r.grown.parts }) r.fits (after_read r.grown.thread).deep e l h
 
 all_named : (n at : ℕ) (tokens : List Token) (marks : List Bool) (g : Grown) (e : SyntaxFault) → at + n ≡ length tokens → all_read n at tokens marks g ≡ Err e → NamesToken tokens e

@@ -4,6 +4,7 @@ ghost use Rattle.zig_parse.specs.Choices.{offered};
 ghost use Rattle.zig_parse.specs.Growth.{known, moved, ready};
 ghost use Rattle.zig_parse.specs.Growth as spec;
 ghost use Rattle.zig_parse.specs.Grows.{grown};
+ghost use Rattle.zig_parse.specs.Moves.{moves_for};
 ghost use Rattle.zig_parse.specs.Surveys.{Gives};
 
 use crate::built::Built;
@@ -15,9 +16,6 @@ use crate::thread::{Move, Thread};
 use std::alloc::{AllocError, Global};
 use zig_tree::{Part, Rule, Token, TokenKind, Tree};
 use zw_base::Seq;
-
-/// How many moves the one thread has at a token at most.
-const MOVES: u32 = 10_000_000;
 
 /// The one thread, and the nodes so far.
 #[derive(Debug, Drop)]
@@ -102,17 +100,15 @@ impl Growth {
     }
 
     /// Whether the token can be read, after the moves before it.
-    #[tactic(auto, using(crate::proofs::Tokens::ready_steps))]
     fn settle(&mut self, look: Look, second: bool, tokens: &[Token]) -> Result<bool, AllocError>
-        ensures fits { IfOk result (λ b. b ≡ (ready MOVES tokens.now look second (grown self.old)).fits) }
-        ensures after { OnOk result (grown self.new ≡ (ready MOVES tokens.now look second (grown self.old)).grown) }
+        ensures fits { IfOk result (λ b. b ≡ (ready (moves_for self.old.thread) tokens.now look second (grown self.old)).fits) }
+        ensures after { OnOk result (grown self.new ≡ (ready (moves_for self.old.thread) tokens.now look second (grown self.old)).grown) }
     {
-        for _ in 0..MOVES {
+        loop {
             if let Some(fits) = self.advance(look, second, tokens)? {
                 return Ok(fits);
             }
         }
-        Ok(false)
     }
 
     /// Reads a token.
