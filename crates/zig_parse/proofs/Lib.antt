@@ -21,4 +21,5 @@ pub mod Refusals
 pub mod Ranks
 pub mod Preferred
 pub mod Names
+pub mod CostTables
 pub mod Costs

@@ -43,7 +43,8 @@ use Rattle.zig_parse.proofs.Spelled.{here, look_here, token_next}
 use Rattle.zig_parse.proofs.Story.{Inside, left_from, inside_done, inside_some, inside_new, made_height}
 use Rattle.zig_parse.proofs.Picks.{picked_open}
 use Rattle.zig_parse.proofs.Standing.{Outer, at_root, in_node, outer_closes, Standing, fewer, group_step, open_standing, rule_step, token_step}
-use Rattle.zig_parse.proofs.Costs.{cost_of_rule, front_cost, group_front, rule_cost_small, rule_row_fits}
+use Rattle.zig_parse.proofs.CostTables.{cost_of_rule, front_cost, rule_cost_small}
+use Rattle.zig_parse.proofs.Costs.{group_front, rule_row_fits}
 use Rattle.zig_parse.proofs.Closing.{Shut, shut_parts, close_step}
 
 -- ---- depth is never forgotten

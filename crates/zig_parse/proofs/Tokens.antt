@@ -1,8 +1,8 @@
 -- One token more of a pass.
-use Rattle.std.proofs.Common.{◌≡◌, ℕ, suc, ◌+◌, ◌-◌, ◌<◌, ◌≤◌, Bool, false, List, Some, None, refl, sym, ◌∙◌, ap, arith, Ok, Err}
+use Rattle.std.proofs.Common.{◌≡◌, ℕ, suc, ◌+◌, ◌-◌, ◌<◌, ◌≤◌, Bool, List, Some, refl, sym, ◌∙◌, ap, arith, Ok, Err}
 use Rattle.zig_tree.specs.declared.token.Token.{Token}
 use Rattle.zig_parse.specs.declared.choice.Look.{Look}
-use Rattle.zig_parse.specs.Growth.{Grown, Ready, all_read, all_shut, is_second, known, moved, read_one, ready, ready_by, shut, ◌>>=◌}
+use Rattle.zig_parse.specs.Growth.{Grown, all_read, all_shut, is_second, known, moved, read_one, ready, ready_by, shut, ◌>>=◌}
 use Rattle.zig_parse.specs.declared.state.State.{State}
 use Rattle.zig_parse.specs.declared.fault.SyntaxFault.{SyntaxFault}
 use Rattle.zig_parse.specs.Surveys.{judged, look_at, next_marks, next_state, next_verdict, surveyed}
