@@ -123,7 +123,7 @@ some_kids kids a b l tokens nodes p (spells_token _ _ t ks later h s) = omega ar
 some_kids kids a b l tokens nodes p (spells_node number _ next _ n ks inside later h k e s u) = omega arith
 
 close_by : (tokens : List Token) (at moves : ℕ) (t : Thread) (parts after : Parts) (f : Frame) (fs : List Frame) (r : Rule) (behind : List Item) (from : ℕ) (others own : List Kid) (depth : ℕ) → at ≤ length tokens → length tokens < 2 ^ 32
-    → Outer tokens parts.nodes fs r behind from others depth → r ≡ f.rule → (i : Inside tokens parts.nodes f from at own [] t.depth) → t.frames ≡ f ∷ fs → t.items ≡ behind → t.depth ≡ depth + count f.solid → t.depth + 2 * moves ≤ 20000200
+    → Outer tokens parts.nodes fs r behind from others depth → r ≡ f.rule → (i : Inside tokens parts.nodes f from at own [] t.depth) → t.frames ≡ f ∷ fs → t.items ≡ behind → t.depth ≡ depth + count f.solid → t.depth + 2 * moves ≤ 400
     → 0 < length fs → Shut tokens parts after others from at (made f.rule i.pieces) f.solid → (qs : List Part) × Standing tokens at moves (closed t) after qs
 unfolding inside_more
 close_by tokens at moves t parts after f fs r behind from others own depth within fits at_root er i ef ei ed budget some s = absurd (omega arith)

@@ -18,3 +18,8 @@ pub mod Standing
 pub mod Closing
 pub mod Sound
 pub mod Refusals
+pub mod Ranks
+pub mod Preferred
+pub mod Names
+pub mod CostTables
+pub mod Costs

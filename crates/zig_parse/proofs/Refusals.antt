@@ -1,6 +1,5 @@
 -- A list of tokens has at most one answer: a tree, or one refused token.
-use Rattle.std.proofs.Common.{◌≡◌, ℕ, zero, suc, ◌+◌, ◌<◌, ◌≤◌, ◌⊎◌, inl, inr, List, [], ◌∷◌, ◌++◌, length, take, drop, refl, sym, ◌∙◌, ap, subst, arith, append_assoc, length-append}
-use Rattle.std.specs.Prelude.{max}
+use Rattle.std.proofs.Common.{◌≡◌, ℕ, zero, suc, ◌+◌, ◌<◌, ◌≤◌, inl, inr, List, [], ◌∷◌, ◌++◌, length, take, drop, refl, sym, ap, subst, arith, append_assoc, length-append}
 use Rattle.std.proofs.lemmas.Bool.{cases_order}
 use Rattle.zig_tree.specs.declared.token.TokenKind.{TokenKind}
 use Rattle.zig_tree.specs.GrammarSentences.{Pieces, nothing, word, node, Sentence, Accepted, AreShallow, Begins, BeginsShallow, IsRefused, IsUnexpected, IsTooDeep, height, token_depths}
@@ -45,8 +44,11 @@ shorter_front (suc n) (suc m) (x ∷ xs) l = let s = shorter_front n m xs (omega
 front_begins : (front more : List TokenKind) → BeginsShallow (front ++ more) → BeginsShallow front
 unfolding BeginsShallow
 front_begins front more b = (
-  more ++ b.0, b.1, subst (λ (l : List TokenKind). Sentence l b.1) (append_assoc front more b.0) b.2,
-  shallow_front (length front) (length (front ++ more)) (token_depths 0 b.1) (omega (arith, length-append front more)) b.3)
+  more ++ b.0,
+  b.1,
+  subst (λ (l : List TokenKind). Sentence l b.1) (append_assoc front more b.0) b.2,
+  shallow_front (length front) (length (front ++ more)) (token_depths 0 b.1) (omega (arith, length-append front more)) b.3,
+)
 
 fewer_begin : (n m : ℕ) (tokens : List TokenKind) → n ≤ m → BeginsShallow (take m tokens) → BeginsShallow (take n tokens)
 fewer_begin n m tokens l b = let s = shorter_front n m tokens l in front_begins (take n tokens) s.0 (subst BeginsShallow s.1 b)
@@ -54,8 +56,11 @@ fewer_begin n m tokens l b = let s = shorter_front n m tokens l in front_begins 
 accepted_begins : (tokens : List TokenKind) (tree : Pieces) (n : ℕ) → Accepted tokens tree → BeginsShallow (take n tokens)
 unfolding Accepted BeginsShallow
 accepted_begins tokens tree n a = (
-  drop n tokens, tree, subst (λ (l : List TokenKind). Sentence l tree) (sym (cut_front n tokens)) a.0,
-  shallow_taken (length (take n tokens)) (token_depths 0 tree) (depths_low 0 tree (omega (arith, a.1))))
+  drop n tokens,
+  tree,
+  subst (λ (l : List TokenKind). Sentence l tree) (sym (cut_front n tokens)) a.0,
+  shallow_taken (length (take n tokens)) (token_depths 0 tree) (depths_low 0 tree (omega (arith, a.1))),
+)
 
 -- ---- one answer
 

@@ -1,7 +1,7 @@
 -- The nodes that the second pass gives hold all tokens, by rules that derive them.
-use Rattle.std.proofs.Common.{◌≡◌, ℕ, zero, suc, ◌+◌, ◌<◌, ◌≤◌, Bool, true, false, ◌&&◌, ◌||◌, ◌⊎◌, inl, inr, List, [], ◌∷◌, ◌++◌, map, length, Option, Some, None, Result, Ok, Err, refl, sym, ◌∙◌, ap, subst, arith, length-append}
+use Rattle.std.proofs.Common.{◌≡◌, ℕ, zero, suc, ◌+◌, ◌-◌, ◌<◌, ◌≤◌, Bool, true, false, ◌&&◌, ◌||◌, ◌⊎◌, inl, inr, List, [], ◌∷◌, ◌++◌, map, length, Option, Some, None, Result, Ok, Err, refl, sym, ◌∙◌, ap, subst, arith, length-append}
 use Rattle.std.specs.Prelude.{if◌then◌else◌, not, slice_get, nat_lt, nat_eq, ◌^◌, replicate}
-use Rattle.std.proofs.lemmas.Bool.{le-ltb, eqb-true}
+use Rattle.std.proofs.lemmas.Bool.{le-ltb, ltb-true, eqb-true}
 use Rattle.zig_tree.specs.declared.token.Token.{Token}
 use Rattle.zig_tree.specs.declared.token.TokenKind.{TokenKind}
 use Rattle.zig_tree.specs.declared.token.TokenKind.TheVariants.{End}
@@ -28,7 +28,7 @@ use Rattle.zig_parse.specs.declared.thread.Move.TheVariants as move
 use Rattle.zig_parse.specs.declared.fault.SyntaxFault.{SyntaxFault}
 use Rattle.zig_parse.specs.declared.fault.SyntaxFault.TheVariants.{Unexpected, TooDeep}
 use Rattle.zig_parse.specs.Threads.{after_read, closed, closed_from, collapses, gained, hardened, part_height, is_deep, is_never_alone, item, met, met_from, opened, passed, put, replaced, touched_from}
-use Rattle.zig_parse.specs.Moves.{move_at, move_from, next_move, reading}
+use Rattle.zig_parse.specs.Moves.{move_at, move_from, moves_for, next_move, reading}
 use Rattle.zig_parse.specs.Choices.{choices, matching}
 use Rattle.zig_parse.specs.Nodes.{Parts, with_node, with_token}
 use Rattle.zig_parse.specs.Passes.{begun}
@@ -42,7 +42,9 @@ use Rattle.zig_parse.proofs.Tables.{same_kind}
 use Rattle.zig_parse.proofs.Spelled.{here, look_here, token_next}
 use Rattle.zig_parse.proofs.Story.{Inside, left_from, inside_done, inside_some, inside_new, made_height}
 use Rattle.zig_parse.proofs.Picks.{picked_open}
-use Rattle.zig_parse.proofs.Standing.{Outer, at_root, in_node, outer_closes, Standing, fewer, group_step, rule_step, token_step}
+use Rattle.zig_parse.proofs.Standing.{Outer, at_root, in_node, outer_closes, Standing, fewer, group_step, open_standing, rule_step, token_step}
+use Rattle.zig_parse.proofs.CostTables.{cost_of_rule, front_cost, rule_cost_small}
+use Rattle.zig_parse.proofs.Costs.{group_front, rule_row_fits}
 use Rattle.zig_parse.proofs.Closing.{Shut, shut_parts, close_step}
 
 -- ---- depth is never forgotten
@@ -162,52 +164,76 @@ shut_is : (tokens : List Token) (g : Grown) (f : Frame) (fs : List Frame) → g.
 unfolding shut
 shut_is tokens g f fs e = ap (shut_from tokens g) e
 
-close_moves : (tokens : List Token) (at moves : ℕ) (look : Look) (second : Bool) (g : Grown) → at ≤ length tokens → length tokens < 2 ^ 32 → Standing tokens at moves g.thread g.parts [] → next_move look false g.thread ≡ move.Close
-    → Stands tokens at moves (shut tokens g)
-close_moves tokens at moves look second g within fits s e =
+-- no node was opened yet at this token, or the innermost one was and the parts before the token cost no more
+abbrev Phase : ℕ → ℕ → ℕ → List Part → Type 0
+Phase at moves from qs = (moves ≡ 100) ⊎ ((from ≡ at) × (front_cost qs ≤ moves))
+
+record Going (tokens : List Token) (at : ℕ) (g : Grown) : Type 0 where
+  qs : List Part
+  moves : ℕ
+  standing : Standing tokens at moves g.thread g.parts qs
+  phase : Phase at moves standing.from qs
+
+close_moves : (tokens : List Token) (at moves : ℕ) (look : Look) (g : Grown) → at ≤ length tokens → length tokens < 2 ^ 32 → (s : Standing tokens at moves g.thread g.parts []) → Phase at moves s.from [] → next_move look false g.thread ≡ move.Close
+    → Going tokens at (shut tokens g)
+close_moves tokens at moves look g within fits s (inl none) e =
     let c = close_step tokens at moves g.thread g.parts within fits s (not_root tokens at moves look g.thread g.parts s e) in
-    subst (Stands tokens at moves) (sym (shut_is tokens g s.f s.fs s.frames)) (record { qs = c.0; standing = c.1 })
+    subst (Going tokens at) (sym (shut_is tokens g s.f s.fs s.frames)) (record { qs = c.0; moves = moves; standing = c.1; phase = inl none })
+close_moves tokens at moves look g within fits s (inr here_opened) e =
+    let some = inside_some tokens g.parts.nodes s.f s.from at s.own g.thread.depth s.inside in
+    absurd (omega (arith, here_opened.0))
 
-rule_moves : (tokens : List Token) (at moves : ℕ) (look : Look) (second : Bool) (g : Grown) (r : Rule) (qs : List Part) → look ≡ here (left_from tokens at) → Standing tokens at (suc moves) g.thread g.parts (part.Rule r ∷ qs)
-    → (o : Option (List Part)) → picked second (choices look (rule_rows r)) ≡ o → stuck_at o ≡ None → (swapped (Some r) o g).thread.deep ≡ false → Stands tokens at moves (swapped (Some r) o g)
-rule_moves tokens at moves look second g r qs l s None e k h = absurd (cc)
-rule_moves tokens at moves look second g r qs l s (Some ps) e k h =
+rule_left : (r : Rule) (qs : List Part) (at moves from front : ℕ) → front < cost_of_rule r → Phase at moves from (part.Rule r ∷ qs) → (suc (moves - 1) ≤ moves) × (front ≤ moves - 1)
+rule_left r qs at moves from front l (inl none) = let small = ltb-true (cost_of_rule r) 30 (rule_cost_small r) in (omega arith, omega arith)
+rule_left r qs at moves from front l (inr some) = (omega (arith, some.1), omega (arith, some.1))
+
+rule_moves : (tokens : List Token) (at moves : ℕ) (look : Look) (second : Bool) (g : Grown) (r : Rule) (qs : List Part) → look ≡ here (left_from tokens at) → (s : Standing tokens at moves g.thread g.parts (part.Rule r ∷ qs)) → Phase at moves s.from (part.Rule r ∷ qs)
+    → (o : Option (List Part)) → picked second (choices look (rule_rows r)) ≡ o → stuck_at o ≡ None → (swapped (Some r) o g).thread.deep ≡ false → Going tokens at (swapped (Some r) o g)
+unfolding rule_step open_standing
+rule_moves tokens at moves look second g r qs l s phase None e k h = absurd (cc)
+rule_moves tokens at moves look second g r qs l s phase (Some ps) e k h =
     let p = picked_open (left_from tokens at) second (rule_rows r) ps (ap (λ (x : Look). picked second (choices x (rule_rows r))) (sym l) ∙ e) in
-    subst (λ (x : List Part). (swapped (Some r) (Some x) g).thread.deep ≡ false → Stands tokens at moves (swapped (Some r) (Some x) g)) p.2
-    (λ d. record { qs = p.0.parts; standing = rule_step tokens at moves g.thread g.parts r qs p.0 p.1 s d }) h
+    let fits = rule_row_fits (left_from tokens at) r p.0 p.1 in
+    let some = rule_left r qs at moves s.from (front_cost p.0.parts) fits.0 phase in
+    let less = fewer tokens at moves (suc (moves - 1)) g.thread g.parts (part.Rule r ∷ qs) some.0 s in
+    subst (λ (x : List Part). (swapped (Some r) (Some x) g).thread.deep ≡ false → Going tokens at (swapped (Some r) (Some x) g)) p.2
+    (λ d. record { qs = p.0.parts; moves = moves - 1; standing = rule_step tokens at (moves - 1) g.thread g.parts r qs p.0 p.1 less d; phase = inr (refl, some.1) }) h
 
-group_moves : (tokens : List Token) (at moves : ℕ) (look : Look) (second : Bool) (g : Grown) (r : Group) (qs : List Part) → look ≡ here (left_from tokens at) → Standing tokens at (suc moves) g.thread g.parts (part.Group r ∷ qs)
-    → (o : Option (List Part)) → picked second (choices look (group_rows r)) ≡ o → stuck_at o ≡ None → Stands tokens at moves (swapped None o g)
-group_moves tokens at moves look second g r qs l s None e k = absurd (cc)
-group_moves tokens at moves look second g r qs l s (Some ps) e k =
+group_left : (g : Group) (ps qs : List Part) (at moves from : ℕ) → front_cost (ps ++ qs) ≤ front_cost (part.Group g ∷ qs) → Phase at moves from (part.Group g ∷ qs) → Phase at moves from (ps ++ qs)
+group_left g ps qs at moves from l (inl none) = inl none
+group_left g ps qs at moves from l (inr some) = inr (some.0, omega (arith, some.1))
+
+group_moves : (tokens : List Token) (at moves : ℕ) (look : Look) (second : Bool) (g : Grown) (r : Group) (qs : List Part) → look ≡ here (left_from tokens at) → (s : Standing tokens at moves g.thread g.parts (part.Group r ∷ qs)) → Phase at moves s.from (part.Group r ∷ qs)
+    → (o : Option (List Part)) → picked second (choices look (group_rows r)) ≡ o → stuck_at o ≡ None → Going tokens at (swapped None o g)
+unfolding group_step
+group_moves tokens at moves look second g r qs l s phase None e k = absurd (cc)
+group_moves tokens at moves look second g r qs l s phase (Some ps) e k =
     let p = picked_open (left_from tokens at) second (group_rows r) ps (ap (λ (x : Look). picked second (choices x (group_rows r))) (sym l) ∙ e) in
-    subst (λ (x : List Part). Stands tokens at moves (swapped None (Some x) g)) p.2
-    (record { qs = p.0.parts ++ qs; standing = group_step tokens at moves g.thread g.parts r qs p.0 p.1 s })
+    subst (λ (x : List Part). Going tokens at (swapped None (Some x) g)) p.2
+    (record { qs = p.0.parts ++ qs; moves = moves; standing = group_step tokens at moves g.thread g.parts r qs p.0 p.1 s; phase = group_left r p.0.parts qs at moves s.from (group_front (left_from tokens at) r p.0 qs p.1) phase })
 
 none_some : {A : Type 0} (o : Option A) (a : A) → o ≡ None → o ≡ Some a → ⊥
 none_some o a h k = cc
 
-step_by : (tokens : List Token) (at moves : ℕ) (look : Look) (second : Bool) (g : Grown) (qs : List Part) → at ≤ length tokens → length tokens < 2 ^ 32 → look ≡ here (left_from tokens at) → Standing tokens at (suc moves) g.thread g.parts qs
-    → known look second g ≡ None → (moved tokens look second g).thread.deep ≡ false → Stands tokens at moves (moved tokens look second g)
-step_by tokens at moves look second g [] within fits l s k h =
-    elim (next_none tokens at (suc moves) look g.thread g.parts s) [
+step_by : (tokens : List Token) (at moves : ℕ) (look : Look) (second : Bool) (g : Grown) (qs : List Part) → at ≤ length tokens → length tokens < 2 ^ 32 → look ≡ here (left_from tokens at) → (s : Standing tokens at moves g.thread g.parts qs) → Phase at moves s.from qs
+    → known look second g ≡ None → (moved tokens look second g).thread.deep ≡ false → Going tokens at (moved tokens look second g)
+step_by tokens at moves look second g [] within fits l s phase k h =
+    elim (next_none tokens at moves look g.thread g.parts s) [
       | inl stop ↦ let m = moved_is tokens look second g move.Stop stop in absurd (none_some (known look second g) false k m.1)
-      | inr close ↦
-          let m = moved_is tokens look second g move.Close close in
-          subst (Stands tokens at moves) (sym m.0) (close_moves tokens at moves look second g within fits (fewer tokens at (suc moves) moves g.thread g.parts [] (omega arith) s) close)
+      | inr close ↦ let m = moved_is tokens look second g move.Close close in subst (Going tokens at) (sym m.0) (close_moves tokens at moves look g within fits s phase close)
     ]
-step_by tokens at moves look second g (part.Token j ∷ qs) within fits l s k h =
-    let m = moved_is tokens look second g (reading (is_kind j look.kind)) (next_part tokens at (suc moves) look g.thread g.parts (part.Token j) qs s) in
+step_by tokens at moves look second g (part.Token j ∷ qs) within fits l s phase k h =
+    let m = moved_is tokens look second g (reading (is_kind j look.kind)) (next_part tokens at moves look g.thread g.parts (part.Token j) qs s) in
     absurd (reading_known look second (is_kind j look.kind) (sym m.1 ∙ k))
-step_by tokens at moves look second g (part.OneOf c ∷ qs) within fits l s k h =
-    let m = moved_is tokens look second g (reading (has_kind c look.kind)) (next_part tokens at (suc moves) look g.thread g.parts (part.OneOf c) qs s) in
+step_by tokens at moves look second g (part.OneOf c ∷ qs) within fits l s phase k h =
+    let m = moved_is tokens look second g (reading (has_kind c look.kind)) (next_part tokens at moves look g.thread g.parts (part.OneOf c) qs s) in
     absurd (reading_known look second (has_kind c look.kind) (sym m.1 ∙ k))
-step_by tokens at moves look second g (part.Rule r ∷ qs) within fits l s k h =
-    let m = moved_is tokens look second g (move.Rule r) (next_part tokens at (suc moves) look g.thread g.parts (part.Rule r) qs s) in
-    subst (Stands tokens at moves) (sym m.0) (rule_moves tokens at moves look second g r qs l s (picked second (choices look (rule_rows r))) refl (sym m.1 ∙ k) (ap (λ (x : Grown). x.thread.deep) (sym m.0) ∙ h))
-step_by tokens at moves look second g (part.Group r ∷ qs) within fits l s k h =
-    let m = moved_is tokens look second g (move.Group r) (next_part tokens at (suc moves) look g.thread g.parts (part.Group r) qs s) in
-    subst (Stands tokens at moves) (sym m.0) (group_moves tokens at moves look second g r qs l s (picked second (choices look (group_rows r))) refl (sym m.1 ∙ k))
+step_by tokens at moves look second g (part.Rule r ∷ qs) within fits l s phase k h =
+    let m = moved_is tokens look second g (move.Rule r) (next_part tokens at moves look g.thread g.parts (part.Rule r) qs s) in
+    subst (Going tokens at) (sym m.0) (rule_moves tokens at moves look second g r qs l s phase (picked second (choices look (rule_rows r))) refl (sym m.1 ∙ k) (ap (λ (x : Grown). x.thread.deep) (sym m.0) ∙ h))
+step_by tokens at moves look second g (part.Group r ∷ qs) within fits l s phase k h =
+    let m = moved_is tokens look second g (move.Group r) (next_part tokens at moves look g.thread g.parts (part.Group r) qs s) in
+    subst (Going tokens at) (sym m.0) (group_moves tokens at moves look second g r qs l s phase (picked second (choices look (group_rows r))) refl (sym m.1 ∙ k))
 
 -- ---- up to the token
 
@@ -228,26 +254,26 @@ known_true look second b move.Close h e = absurd (cc)
 known_true look second b (move.Rule r) h e = absurd (stuck_true (picked second (choices look (rule_rows r))) b h e)
 known_true look second b (move.Group r) h e = absurd (stuck_true (picked second (choices look (group_rows r))) b h e)
 
-reads_here : (tokens : List Token) (at moves : ℕ) (look : Look) (second b : Bool) (g : Grown) (qs : List Part) → Standing tokens at (suc moves) g.thread g.parts qs → known look second g ≡ Some b → b ≡ true → Reads tokens at look (moved tokens look second g)
+reads_here : (tokens : List Token) (at moves : ℕ) (look : Look) (second b : Bool) (g : Grown) (qs : List Part) → Standing tokens at moves g.thread g.parts qs → known look second g ≡ Some b → b ≡ true → Reads tokens at look (moved tokens look second g)
 unfolding known
 reads_here tokens at moves look second b g qs s k e =
     let read = known_true look second b (next_move look false g.thread) k e in
     let m = moved_is tokens look second g move.Read read in
-    subst (Reads tokens at look) (sym m.0) (record { qs = qs; standing = fewer tokens at (suc moves) 0 g.thread g.parts qs (omega arith) s; reads = read })
+    subst (Reads tokens at look) (sym m.0) (record { qs = qs; standing = fewer tokens at moves 0 g.thread g.parts qs (omega arith) s; reads = read })
 
-ready_case : (tokens : List Token) (at moves : ℕ) (look : Look) (second : Bool) (g : Grown) (qs : List Part) (more : Ready) → at ≤ length tokens → length tokens < 2 ^ 32 → look ≡ here (left_from tokens at) → Standing tokens at (suc moves) g.thread g.parts qs
-    → (more.grown.thread.deep ≡ false → (moved tokens look second g).thread.deep ≡ false) → (Stands tokens at moves (moved tokens look second g) → more.fits ≡ true → more.grown.thread.deep ≡ false → Reads tokens at look more.grown)
+ready_case : (tokens : List Token) (at : ℕ) (look : Look) (second : Bool) (g : Grown) (more : Ready) → at ≤ length tokens → length tokens < 2 ^ 32 → look ≡ here (left_from tokens at) → Going tokens at g
+    → (more.grown.thread.deep ≡ false → (moved tokens look second g).thread.deep ≡ false) → (Going tokens at (moved tokens look second g) → more.fits ≡ true → more.grown.thread.deep ≡ false → Reads tokens at look more.grown)
     → (o : Option Bool) → known look second g ≡ o → (ready_by o (moved tokens look second g) more).fits ≡ true → (ready_by o (moved tokens look second g) more).grown.thread.deep ≡ false → Reads tokens at look (ready_by o (moved tokens look second g) more).grown
-ready_case tokens at moves look second g qs more within fits l s d f None k h e = f (step_by tokens at moves look second g qs within fits l s k (d e)) h e
-ready_case tokens at moves look second g qs more within fits l s d f (Some b) k h e = reads_here tokens at moves look second b g qs s k h
+ready_case tokens at look second g more within fits l s d f None k h e = f (step_by tokens at s.moves look second g s.qs within fits l s.standing s.phase k (d e)) h e
+ready_case tokens at look second g more within fits l s d f (Some b) k h e = reads_here tokens at s.moves look second b g s.qs s.standing k h
 
-ready_stands : (moves : ℕ) (tokens : List Token) (at : ℕ) (look : Look) (second : Bool) (g : Grown) (qs : List Part) → at ≤ length tokens → length tokens < 2 ^ 32 → look ≡ here (left_from tokens at) → Standing tokens at moves g.thread g.parts qs
-    → (ready moves tokens look second g).fits ≡ true → (ready moves tokens look second g).grown.thread.deep ≡ false → Reads tokens at look (ready moves tokens look second g).grown
+ready_stands : (n : ℕ) (tokens : List Token) (at : ℕ) (look : Look) (second : Bool) (g : Grown) → at ≤ length tokens → length tokens < 2 ^ 32 → look ≡ here (left_from tokens at) → Going tokens at g
+    → (ready n tokens look second g).fits ≡ true → (ready n tokens look second g).grown.thread.deep ≡ false → Reads tokens at look (ready n tokens look second g).grown
 unfolding ready
-ready_stands zero tokens at look second g qs within fits l s h e = absurd (cc)
-ready_stands (suc n) tokens at look second g qs within fits l s h e =
-    ready_case tokens at n look second g qs (ready n tokens look second (moved tokens look second g)) within fits l s (ready_deep n tokens look second (moved tokens look second g))
-    (λ t i j. ready_stands n tokens at look second (moved tokens look second g) t.qs within fits l t.standing i j) (known look second g) refl h e
+ready_stands zero tokens at look second g within fits l s h e = absurd (cc)
+ready_stands (suc n) tokens at look second g within fits l s h e =
+    ready_case tokens at look second g (ready n tokens look second (moved tokens look second g)) within fits l s (ready_deep n tokens look second (moved tokens look second g))
+    (λ t i j. ready_stands n tokens at look second (moved tokens look second g) within fits l t i j) (known look second g) refl h e
 
 -- ---- a token
 
@@ -279,7 +305,7 @@ bound_ok (Ok x) f y h = (x, refl, h)
 bound_ok (Err e) f y h = absurd (cc)
 
 read_by : (tokens : List Token) (at moves : ℕ) (look : Look) (g : Grown) (k : Token) (qs : List Part) → at < length tokens → length tokens < 2 ^ 32 → look.kind ≡ k.kind → slice_get tokens at ≡ Some k → next_move look false g.thread ≡ move.Read
-    → Standing tokens at moves g.thread g.parts qs → (after_read g.thread).deep ≡ false → Stands tokens (at + 1) 10000000 (record { thread = after_read g.thread; parts = with_token at g.parts })
+    → Standing tokens at moves g.thread g.parts qs → (after_read g.thread).deep ≡ false → Stands tokens (at + 1) 100 (record { thread = after_read g.thread; parts = with_token at g.parts })
 read_by tokens at moves look g k [] within fits e there r s h =
     elim (next_none tokens at moves look g.thread g.parts s) [
       | inl stop ↦ let x : move.Stop ≡ move.Read = sym stop ∙ r in absurd (cc)
@@ -299,30 +325,30 @@ read_by tokens at moves look g k (part.Group o ∷ qs) within fits e there r s h
 
 read_case : (tokens : List Token) (at : ℕ) (look : Look) (r : Ready) (g : Grown) (k : Token) → at < length tokens → length tokens < 2 ^ 32 → look.kind ≡ k.kind → slice_get tokens at ≡ Some k
     → (r.fits ≡ true → r.grown.thread.deep ≡ false → Reads tokens at look r.grown) → (fits deep : Bool) → r.fits ≡ fits → (after_read r.grown.thread).deep ≡ deep
-    → (if fits then (if deep then Err (TooDeep at) else Ok (record { thread = after_read r.grown.thread; parts = with_token at r.grown.parts })) else Err (Unexpected look.kind at)) ≡ Ok g → Stands tokens (at + 1) 10000000 g
+    → (if fits then (if deep then Err (TooDeep at) else Ok (record { thread = after_read r.grown.thread; parts = with_token at r.grown.parts })) else Err (Unexpected look.kind at)) ≡ Ok g → Stands tokens (at + 1) 100 g
 unfolding after_read
 read_case tokens at look r g k within short e there f false deep i j h = absurd (cc)
 read_case tokens at look r g k within short e there f true true i j h = absurd (cc)
 read_case tokens at look r g k within short e there f true false i j h =
     let s = f i (read_deep r.grown.thread r.grown.thread.frames j) in
     let same : record { thread = after_read r.grown.thread; parts = with_token at r.grown.parts } ≡ g = cc in
-    subst (Stands tokens (at + 1) 10000000) same (read_by tokens at 0 look r.grown k s.qs within short e there s.reads s.standing j)
+    subst (Stands tokens (at + 1) 100) same (read_by tokens at 0 look r.grown k s.qs within short e there s.reads s.standing j)
 
-read_stands : (tokens : List Token) (at : ℕ) (second : Bool) (g next : Grown) → at < length tokens → length tokens < 2 ^ 32 → Stands tokens at 10000000 g → read_one at tokens (look_at tokens at) second g ≡ Ok next → Stands tokens (at + 1) 10000000 next
+read_stands : (tokens : List Token) (at : ℕ) (second : Bool) (g next : Grown) → at < length tokens → length tokens < 2 ^ 32 → Stands tokens at 100 g → read_one at tokens (look_at tokens at) second g ≡ Ok next → Stands tokens (at + 1) 100 next
 unfolding read_one
 read_stands tokens at second g next within fits s h =
     let look = look_at tokens at in
     let k = token_there tokens at within in
-    let r = ready 10000000 tokens look second g in
+    let r = ready (moves_for g.thread) tokens look second g in
     read_case tokens at look r next k.0 within fits (kind_there tokens at k.0 k.1) k.1
-    (λ i j. ready_stands 10000000 tokens at look second g s.qs (omega arith) fits (look_here tokens at) s.standing i j) r.fits (after_read r.grown.thread).deep refl refl h
+    (λ i j. ready_stands (moves_for g.thread) tokens at look second g (omega arith) fits (look_here tokens at) (record { qs = s.qs; moves = 100; standing = s.standing; phase = inl refl }) i j) r.fits (after_read r.grown.thread).deep refl refl h
 
-all_read_stands : (n at : ℕ) (tokens : List Token) (marks : List Bool) (g next : Grown) → at + n ≡ length tokens → length tokens < 2 ^ 32 → Stands tokens at 10000000 g → all_read n at tokens marks g ≡ Ok next → Stands tokens (length tokens) 10000000 next
+all_read_stands : (n at : ℕ) (tokens : List Token) (marks : List Bool) (g next : Grown) → at + n ≡ length tokens → length tokens < 2 ^ 32 → Stands tokens at 100 g → all_read n at tokens marks g ≡ Ok next → Stands tokens (length tokens) 100 next
 unfolding all_read
 all_read_stands zero at tokens marks g next e fits s h =
     let same : g ≡ next = cc in
     let end : at ≡ length tokens = omega arith in
-    subst (Stands tokens (length tokens) 10000000) same (subst (λ (n : ℕ). Stands tokens n 10000000 g) end s)
+    subst (Stands tokens (length tokens) 100) same (subst (λ (n : ℕ). Stands tokens n 100 g) end s)
 all_read_stands (suc n) at tokens marks g next e fits s h =
     let b = bound_ok (read_one at tokens (look_at tokens at) (is_second marks at) g) (all_read n (at + 1) tokens marks) next h in
     all_read_stands n (at + 1) tokens marks b.0 next (omega arith) fits (read_stands tokens at (is_second marks at) g b.0 (omega arith) fits s b.1) b.2
@@ -410,7 +436,7 @@ shut_all (suc n) tokens g root [] fits s e l h =
 root_row : Alternative
 root_row = row (when.Always) (part.Group group.RootMembers ∷ part.Token End ∷ [])
 
-sprout_stands : (tokens : List Token) → Stands tokens 0 10000000 (sprout (look_at tokens 0))
+sprout_stands : (tokens : List Token) → Stands tokens 0 100 (sprout (look_at tokens 0))
 unfolding sprout begun choices matching rule_rows put opened fresh collapses root_row
 sprout_stands tokens =
     let f : Frame = record { rule = rule.Root; parts = 0; height = 0; solid = true } in
@@ -442,14 +468,14 @@ empty_items : (is : List Item) → length is ≡ 0 → is ≡ []
 empty_items [] h = refl
 empty_items (i ∷ is) h = absurd (omega arith)
 
-whole_by : (tokens : List Token) (g : Grown) (nodes : List Node) (root : ℕ) (n : ℕ) (empty : Bool) → length tokens < 2 ^ 32 → Stands tokens (length tokens) 10000000 g → length g.thread.frames ≡ suc n → nat_eq (length g.thread.items) 0 ≡ empty
+whole_by : (tokens : List Token) (g : Grown) (nodes : List Node) (root : ℕ) (n : ℕ) (empty : Bool) → length tokens < 2 ^ 32 → Stands tokens (length tokens) 100 g → length g.thread.frames ≡ suc n → nat_eq (length g.thread.items) 0 ≡ empty
     → (if empty then nodes_or (length tokens) (all_shut (length g.thread.frames) tokens g).parts.nodes else Err (Unexpected End (length tokens))) ≡ Ok nodes → root + 1 ≡ length nodes → HoldsAll tokens nodes root
 whole_by tokens g nodes root n false fits s l e h k = absurd (cc)
 whole_by tokens g nodes root n true fits s l e h k =
     let none : length g.thread.items ≡ 0 = eqb-true (length g.thread.items) 0 e in
     let same : (all_shut (suc n) tokens g).parts.nodes ≡ nodes = ap (λ (m : ℕ). (all_shut m tokens g).parts.nodes) (sym l) ∙ nodes_are (length tokens) (all_shut (length g.thread.frames) tokens g).parts.nodes nodes h in
     subst (λ (x : List Node). HoldsAll tokens x root) same
-    (shut_all n tokens g root s.qs fits (fewer tokens (length tokens) 10000000 0 g.thread g.parts s.qs (omega arith) s.standing) (empty_items g.thread.items none) l (k ∙ ap (λ (x : List Node). length x) (sym same)))
+    (shut_all n tokens g root s.qs fits (fewer tokens (length tokens) 100 0 g.thread g.parts s.qs (omega arith) s.standing) (empty_items g.thread.items none) l (k ∙ ap (λ (x : List Node). length x) (sym same)))
 
 pub grown_sound : (tokens : List Token) (marks : List Bool) (nodes : List Node) (root : ℕ) → length tokens < 2 ^ 32 → grown_from tokens marks ≡ Ok nodes → root + 1 ≡ length nodes → HoldsAll tokens nodes root
 unfolding grown_from whole

@@ -61,7 +61,7 @@ outer_closes tokens nodes fs r items at kids depth look count_open h (in_node f 
 
 -- ---- the state
 
--- the innermost open node, those around it, and how many moves are left at this token
+-- the innermost open node, those around it, and how many nodes may still be opened before this token
 pub record Standing (tokens : List Token) (at moves : ℕ) (t : Thread) (parts : Parts) (qs : List Part) : Type 0 where
   pub f : Frame
   pub fs : List Frame
@@ -76,7 +76,7 @@ pub record Standing (tokens : List Token) (at moves : ℕ) (t : Thread) (parts :
   pub items : t.items ≡ map (item (suc (length fs))) qs ++ behind
   pub kids : parts.kids ≡ others ++ own
   pub deep_as : t.depth ≡ depth + count f.solid
-  pub budget : t.depth + 2 * moves ≤ 20000200
+  pub budget : t.depth + 2 * moves ≤ 400
 
 pub fewer : (tokens : List Token) (at moves less : ℕ) (t : Thread) (parts : Parts) (qs : List Part) → less ≤ moves → Standing tokens at moves t parts qs → Standing tokens at less t parts qs
 fewer tokens at moves less t parts qs h s = record {
@@ -98,14 +98,14 @@ fewer tokens at moves less t parts qs h s = record {
 
 -- ---- a group is replaced
 
-map_joined : (level : ℕ) (ps qs : List Part) (behind : List Item) → map (item level) ps ++ (map (item level) qs ++ behind) ≡ map (item level) (ps ++ qs) ++ behind
+pub map_joined : (level : ℕ) (ps qs : List Part) (behind : List Item) → map (item level) ps ++ (map (item level) qs ++ behind) ≡ map (item level) (ps ++ qs) ++ behind
 map_joined level [] qs behind = refl
 map_joined level (p ∷ ps) qs behind = ap (λ (l : List Item). item level p ∷ l) (map_joined level ps qs behind)
 
-rest_as : (t : Thread) (q : Part) (qs : List Part) (level : ℕ) (behind : List Item) → t.items ≡ map (item level) (q ∷ qs) ++ behind → rest t.items ≡ map (item level) qs ++ behind
+pub rest_as : (t : Thread) (q : Part) (qs : List Part) (level : ℕ) (behind : List Item) → t.items ≡ map (item level) (q ∷ qs) ++ behind → rest t.items ≡ map (item level) qs ++ behind
 rest_as t q qs level behind e = ap rest e
 
-pub group_step : (tokens : List Token) (at moves : ℕ) (t : Thread) (parts : Parts) (g : Group) (qs : List Part) (b : Alternative) → Among b (open_at (left_from tokens at) (group_rows g)) → Standing tokens at (suc moves) t parts (part.Group g ∷ qs)
+unfoldable pub group_step : (tokens : List Token) (at moves : ℕ) (t : Thread) (parts : Parts) (g : Group) (qs : List Part) (b : Alternative) → Among b (open_at (left_from tokens at) (group_rows g)) → Standing tokens at moves t parts (part.Group g ∷ qs)
     → Standing tokens at moves (replaced None b.parts t) parts (b.parts ++ qs)
 unfolding replaced put
 group_step tokens at moves t parts g qs b m s = record {
@@ -128,21 +128,21 @@ group_step tokens at moves t parts g qs b m s = record {
 -- ---- a rule is replaced
 
 -- the state where a rule begins, made a node where it is one for sure
-record Met (tokens : List Token) (at : ℕ) (u : Thread) (parts : Parts) (r : Rule) (qs : List Part) : Type 0 where
-  f : Frame
-  fs : List Frame
-  behind : List Item
-  from : ℕ
-  others : List Kid
-  own : List Kid
-  depth : ℕ
-  outer : Outer tokens parts.nodes fs f.rule behind from others depth
-  inside : Inside tokens parts.nodes f from at own (part.Rule r ∷ qs) u.depth
-  waits : f.solid ≡ false → length own ≡ 0
-  frames : u.frames ≡ f ∷ fs
-  items : u.items ≡ map (item (suc (length fs))) qs ++ behind
-  kids : parts.kids ≡ others ++ own
-  deep_as : u.depth ≡ depth + count f.solid
+pub record Met (tokens : List Token) (at : ℕ) (u : Thread) (parts : Parts) (r : Rule) (qs : List Part) : Type 0 where
+  pub f : Frame
+  pub fs : List Frame
+  pub behind : List Item
+  pub from : ℕ
+  pub others : List Kid
+  pub own : List Kid
+  pub depth : ℕ
+  pub outer : Outer tokens parts.nodes fs f.rule behind from others depth
+  pub inside : Inside tokens parts.nodes f from at own (part.Rule r ∷ qs) u.depth
+  pub waits : f.solid ≡ false → length own ≡ 0
+  pub frames : u.frames ≡ f ∷ fs
+  pub items : u.items ≡ map (item (suc (length fs))) qs ++ behind
+  pub kids : parts.kids ≡ others ++ own
+  pub deep_as : u.depth ≡ depth + count f.solid
 
 or_false : (x y : Bool) → (x || y) ≡ false → (x ≡ false) × (y ≡ false)
 or_false true y h = absurd (cc)
@@ -152,7 +152,7 @@ pub shallow_deep : (depth height : ℕ) → is_deep depth height ≡ false → d
 unfolding is_deep
 shallow_deep depth height h = let l = ltb-false 200 (min (depth + height) (2 ^ 32 - 1)) h in omega (arith, l)
 
-one_more_is : (n : ℕ) → n ≤ 20000200 → one_more n ≡ n + 1
+one_more_is : (n : ℕ) → n ≤ 400 → one_more n ≡ n + 1
 one_more_is n h = omega arith
 
 met_soft : (tokens : List Token) (at moves : ℕ) (t : Thread) (parts : Parts) (r : Rule) (qs : List Part) (s : Standing tokens at (suc moves) t parts (part.Rule r ∷ qs)) → (s.f.solid ≡ false → s.f.parts ≡ 0) → Met tokens at (passed t) parts r qs
@@ -208,14 +208,14 @@ met_by tokens at moves t parts r qs s false true z ex ey ez h = met_hard tokens 
 met_by tokens at moves t parts r qs s false false true ex ey ez h = met_hard tokens at moves t parts r qs s ex (inr ez) h
 met_by tokens at moves t parts r qs s false false false ex ey ez h = met_soft tokens at moves t parts r qs s (λ e. (let l = ltb-false 0 s.f.parts ey in omega arith))
 
-met_standing : (tokens : List Token) (at moves : ℕ) (t : Thread) (parts : Parts) (r : Rule) (qs : List Part) → Standing tokens at (suc moves) t parts (part.Rule r ∷ qs) → (met r (passed t)).deep ≡ false → Met tokens at (met r (passed t)) parts r qs
+pub met_standing : (tokens : List Token) (at moves : ℕ) (t : Thread) (parts : Parts) (r : Rule) (qs : List Part) → Standing tokens at (suc moves) t parts (part.Rule r ∷ qs) → (met r (passed t)).deep ≡ false → Met tokens at (met r (passed t)) parts r qs
 unfolding met
 met_standing tokens at moves t parts r qs s h =
     let e : met_from r (passed t) t.frames ≡ met_from r (passed t) (s.f ∷ s.fs) = ap (met_from r (passed t)) s.frames in
     subst (λ (u : Thread). Met tokens at u parts r qs) (sym e)
     (met_by tokens at moves t parts r qs s s.f.solid (nat_lt 0 s.f.parts) (is_never_alone r) refl refl refl (ap (λ (u : Thread). u.deep) (sym e) ∙ h))
 
-met_depth : (r : Rule) (t : Thread) (fs : List Frame) → t.depth ≤ 20000200 → (met_from r t fs).depth ≤ t.depth + 1
+pub met_depth : (r : Rule) (t : Thread) (fs : List Frame) → t.depth ≤ 400 → (met_from r t fs).depth ≤ t.depth + 1
 unfolding hardened
 met_depth r t [] h = omega arith
 met_depth r t (f ∷ fs) h = by (not f.solid && (nat_lt 0 f.parts || is_never_alone r))
@@ -224,15 +224,15 @@ met_depth r t (f ∷ fs) h = by (not f.solid && (nat_lt 0 f.parts || is_never_al
     by true = omega arith
     by false = omega arith
 
-opened_depth : (lone : Bool) (depth : ℕ) → depth < 20000200 → (if lone then depth else one_more depth) ≡ depth + count (not lone)
+pub opened_depth : (lone : Bool) (depth : ℕ) → depth < 400 → (if lone then depth else one_more depth) ≡ depth + count (not lone)
 opened_depth true depth h = omega arith
 opened_depth false depth h = omega arith
 
-opened_budget : (lone : Bool) (depth moves : ℕ) → depth + 2 * moves < 20000200 → (if lone then depth else one_more depth) + 2 * moves ≤ 20000200
+pub opened_budget : (lone : Bool) (depth moves : ℕ) → depth + 2 * moves < 400 → (if lone then depth else one_more depth) + 2 * moves ≤ 400
 opened_budget true depth moves h = omega arith
 opened_budget false depth moves h = omega arith
 
-open_standing : (tokens : List Token) (at moves : ℕ) (u : Thread) (parts : Parts) (r : Rule) (qs : List Part) (b : Alternative) → Among b (open_at (left_from tokens at) (rule_rows r)) → u.depth + 2 * moves < 20000200 → Met tokens at u parts r qs
+unfoldable pub open_standing : (tokens : List Token) (at moves : ℕ) (u : Thread) (parts : Parts) (r : Rule) (qs : List Part) (b : Alternative) → Among b (open_at (left_from tokens at) (rule_rows r)) → u.depth + 2 * moves < 400 → Met tokens at u parts r qs
     → Standing tokens at moves (put b.parts (opened r u)) parts b.parts
 unfolding put opened
 open_standing tokens at moves u parts r qs b m h s =
@@ -255,7 +255,7 @@ open_standing tokens at moves u parts r qs b m h s =
       budget = opened_budget (collapses r) u.depth moves h;
     }
 
-pub rule_step : (tokens : List Token) (at moves : ℕ) (t : Thread) (parts : Parts) (r : Rule) (qs : List Part) (b : Alternative) → Among b (open_at (left_from tokens at) (rule_rows r)) → Standing tokens at (suc moves) t parts (part.Rule r ∷ qs)
+unfoldable pub rule_step : (tokens : List Token) (at moves : ℕ) (t : Thread) (parts : Parts) (r : Rule) (qs : List Part) (b : Alternative) → Among b (open_at (left_from tokens at) (rule_rows r)) → Standing tokens at (suc moves) t parts (part.Rule r ∷ qs)
     → (replaced (Some r) b.parts t).deep ≡ false → Standing tokens at moves (replaced (Some r) b.parts t) parts b.parts
 unfolding replaced put opened met
 rule_step tokens at moves t parts r qs b m s h =
@@ -279,7 +279,7 @@ soft_touch f e = ap (λ (b : Bool). with_part 0 (record f { solid = b })) e
 read_standing : (tokens : List Token) (at moves : ℕ) (t u : Thread) (parts : Parts) (q : Part) (k : Token) (qs : List Part) (s : Standing tokens at moves t parts (q ∷ qs)) → at < length tokens → length tokens < 2 ^ 32
     → ((end : List TokenKind) (later : Pieces) → Derives qs (left_from tokens (at + 1)) end later → Derives (q ∷ qs) (left_from tokens at) end (word k.kind later)) → slice_get tokens at ≡ Some k
     → u.frames ≡ touched s.f ∷ s.fs → u.items ≡ rest t.items → u.depth ≡ s.depth + 1 → u.depth + s.f.height ≤ 200
-    → Standing tokens (at + 1) 10000000 u (record { nodes = parts.nodes; kids = parts.kids ++ kid.Token at ∷ [] }) qs
+    → Standing tokens (at + 1) 100 u (record { nodes = parts.nodes; kids = parts.kids ++ kid.Token at ∷ [] }) qs
 read_standing tokens at moves t u parts q k qs s within fits reads there ef ei ed low =
     let have = spells_within tokens parts.nodes s.own s.from at s.inside.pieces s.inside.spelled in
     let parts_as : one_more s.f.parts ≡ s.f.parts + 1 = omega (arith, s.inside.counted) in
@@ -303,7 +303,7 @@ read_standing tokens at moves t u parts q k qs s within fits reads there ef ei e
 token_by : (tokens : List Token) (at moves : ℕ) (t : Thread) (parts : Parts) (q : Part) (k : Token) (qs : List Part) (solid : Bool) (s : Standing tokens at moves t parts (q ∷ qs)) → at < length tokens → length tokens < 2 ^ 32
     → ((end : List TokenKind) (later : Pieces) → Derives qs (left_from tokens (at + 1)) end later → Derives (q ∷ qs) (left_from tokens at) end (word k.kind later)) → slice_get tokens at ≡ Some k → s.f.solid ≡ solid
     → (with_gain 0 (if solid then record (passed t) { deep = t.deep || is_deep t.depth 0 } else hardened s.f (passed t))).deep ≡ false
-    → Standing tokens (at + 1) 10000000 (with_gain 0 (if solid then record (passed t) { deep = t.deep || is_deep t.depth 0 } else hardened s.f (passed t))) (record { nodes = parts.nodes; kids = parts.kids ++ kid.Token at ∷ [] }) qs
+    → Standing tokens (at + 1) 100 (with_gain 0 (if solid then record (passed t) { deep = t.deep || is_deep t.depth 0 } else hardened s.f (passed t))) (record { nodes = parts.nodes; kids = parts.kids ++ kid.Token at ∷ [] }) qs
 unfolding hardened
 token_by tokens at moves t parts q k qs true s within fits reads there e h =
     let low = shallow_deep t.depth 0 (or_false t.deep (is_deep t.depth 0) h).1 in
@@ -319,8 +319,8 @@ token_by tokens at moves t parts q k qs false s within fits reads there e h =
 
 pub token_step : (tokens : List Token) (at moves : ℕ) (t : Thread) (parts : Parts) (q : Part) (k : Token) (qs : List Part) → at < length tokens → length tokens < 2 ^ 32
     → ((end : List TokenKind) (later : Pieces) → Derives qs (left_from tokens (at + 1)) end later → Derives (q ∷ qs) (left_from tokens at) end (word k.kind later)) → slice_get tokens at ≡ Some k
-    → Standing tokens at moves t parts (q ∷ qs) → (after_read t).deep ≡ false → Standing tokens (at + 1) 10000000 (after_read t) (with_token at parts) qs
+    → Standing tokens at moves t parts (q ∷ qs) → (after_read t).deep ≡ false → Standing tokens (at + 1) 100 (after_read t) (with_token at parts) qs
 unfolding after_read with_token hardened
 token_step tokens at moves t parts q k qs within fits reads there s h =
-    subst (λ (u : Thread). u.deep ≡ false → Standing tokens (at + 1) 10000000 u (record { nodes = parts.nodes; kids = parts.kids ++ kid.Token at ∷ [] }) qs)
+    subst (λ (u : Thread). u.deep ≡ false → Standing tokens (at + 1) 100 u (record { nodes = parts.nodes; kids = parts.kids ++ kid.Token at ∷ [] }) qs)
     (sym (ap (λ (l : List Frame). with_gain 0 (touched_from (passed t) l)) s.frames)) (λ e. token_by tokens at moves t parts q k qs s.f.solid s within fits reads there refl e) h

@@ -1,8 +1,8 @@
 -- One token more of a pass.
-use Rattle.std.proofs.Common.{◌≡◌, ℕ, suc, ◌+◌, ◌-◌, ◌<◌, ◌≤◌, Bool, false, List, Some, None, refl, sym, ◌∙◌, ap, arith, Ok, Err}
+use Rattle.std.proofs.Common.{◌≡◌, ℕ, suc, ◌+◌, ◌-◌, ◌<◌, ◌≤◌, Bool, List, Some, refl, sym, ◌∙◌, ap, arith, Ok, Err}
 use Rattle.zig_tree.specs.declared.token.Token.{Token}
 use Rattle.zig_parse.specs.declared.choice.Look.{Look}
-use Rattle.zig_parse.specs.Growth.{Grown, Ready, all_read, all_shut, is_second, known, moved, read_one, ready, ready_by, shut, ◌>>=◌}
+use Rattle.zig_parse.specs.Growth.{Grown, all_read, all_shut, is_second, known, moved, read_one, ready, ready_by, shut, ◌>>=◌}
 use Rattle.zig_parse.specs.declared.state.State.{State}
 use Rattle.zig_parse.specs.declared.fault.SyntaxFault.{SyntaxFault}
 use Rattle.zig_parse.specs.Surveys.{judged, look_at, next_marks, next_state, next_verdict, surveyed}
@@ -33,16 +33,6 @@ ready_suc n tokens look second g = refl
 pub ready_known : (n : ℕ) (tokens : List Token) (look : Look) (second b : Bool) (g : Grown) → 0 < n → known look second g ≡ Some b
     → ready n tokens look second g ≡ record { fits = b; grown = moved tokens look second g }
 ready_known n tokens look second b g h e = let same : n ≡ suc (n - 1) = omega arith in rw (same, ready_suc (n - 1) tokens look second g, e) refl
-
-pub ready_more : (n : ℕ) (tokens : List Token) (look : Look) (second : Bool) (g : Grown) → 0 < n → known look second g ≡ None
-    → ready n tokens look second g ≡ ready (n - 1) tokens look second (moved tokens look second g)
-ready_more n tokens look second g h e = let same : n ≡ suc (n - 1) = omega arith in ap (λ (k : ℕ). ready k tokens look second g) same ∙ rw (ready_suc (n - 1) tokens look second g, e) refl
-
-pub ready_zero : (tokens : List Token) (look : Look) (second : Bool) (g : Grown) → ready 0 tokens look second g ≡ record { fits = false; grown = g }
-unfolding ready
-ready_zero tokens look second g = refl
-
-pub ruleset ready_steps = (ready_known, ready_more, ready_zero)
 
 -- all nodes are closed, one node earlier
 all_shut_suc : (n : ℕ) (tokens : List Token) (g : Grown) → all_shut (suc n) tokens g ≡ all_shut n tokens (shut tokens g)
@@ -77,11 +67,6 @@ unfolding all_read
 all_read_end n at tokens marks g h = let e : n - at ≡ 0 = omega arith in rw e refl
 
 pub ruleset read_steps = (all_read_ok, all_read_err, all_read_end)
-
--- where no move is left
-pub ready_out : (n k : ℕ) (tokens : List Token) (look : Look) (second : Bool) (g : Grown) (whole : Ready) → n ≤ k → ready (n - k) tokens look second g ≡ whole
-    → record { fits = false; grown = g } ≡ whole
-ready_out n k tokens look second g whole h e = let none : n - k ≡ 0 = omega arith in sym (ready_zero tokens look second g) ∙ ap (λ (m : ℕ). ready m tokens look second g) (sym none) ∙ e
 
 pub all_shut_out : (n k : ℕ) (tokens : List Token) (g whole : Grown) → n ≤ k → all_shut (n - k) tokens g ≡ whole → g ≡ whole
 all_shut_out n k tokens g whole h e = let none : n - k ≡ 0 = omega arith in sym (all_shut_zero tokens g) ∙ ap (λ (m : ℕ). all_shut m tokens g) (sym none) ∙ e

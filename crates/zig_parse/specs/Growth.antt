@@ -18,7 +18,7 @@ use Rattle.zig_parse.specs.declared.fault.SyntaxFault.TheVariants.{Unexpected, T
 use Rattle.zig_parse.specs.declared.built.Built.{Built}
 use Rattle.zig_parse.specs.Choices.{choices}
 use Rattle.zig_parse.specs.Threads.{after_read, closed, replaced}
-use Rattle.zig_parse.specs.Moves.{next_move}
+use Rattle.zig_parse.specs.Moves.{moves_for, next_move}
 use Rattle.zig_parse.specs.Nodes.{Parts, with_node, with_token}
 use Rattle.zig_parse.specs.Passes.{begun}
 use Rattle.zig_parse.specs.Surveys.{first_state, look_at, surveyed}
@@ -105,7 +105,7 @@ abbrev pub read_where : ℕ → Look → Ready → Result Grown SyntaxFault
 read_where at look r = if r.fits then token_read at look r.grown else Err (Unexpected look.kind at)
 
 unfoldable pub read_one : ℕ → List Token → Look → Bool → Grown → Result Grown SyntaxFault
-read_one at tokens look second g = read_where at look (ready 10000000 tokens look second g)
+read_one at tokens look second g = read_where at look (ready (moves_for g.thread) tokens look second g)
 
 -- whether the second alternative is taken at a token
 abbrev pub is_second : List Bool → ℕ → Bool

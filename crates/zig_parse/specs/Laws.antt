@@ -1,10 +1,15 @@
 -- What holds of the grammar, and of the function on lists that the parser computes.
-use Rattle.std.specs.Prelude.{◌≡◌, ◌+◌, ◌<◌, ◌^◌, ℕ, List, length, Ok}
+use Rattle.std.specs.Prelude.{◌≡◌, ◌+◌, ◌<◌, ◌≤◌, ◌^◌, ℕ, List, [], ◌∷◌, length, Ok}
 use Rattle.zig_tree.specs.declared.token.TokenKind.{TokenKind}
 use Rattle.zig_tree.specs.declared.token.Token.{Token}
+use Rattle.zig_tree.specs.declared.grammar.Rule.TheVariants as rule
+use Rattle.zig_tree.specs.declared.grammar.Part.TheVariants as part
 use Rattle.zig_tree.specs.declared.tree.Node.{Node}
-use Rattle.zig_tree.specs.GrammarSentences.{Pieces, Sentence, Accepted, IsRefused, IsUnexpected, IsTooDeep}
+use Rattle.zig_tree.specs.GrammarSentences.{Pieces, Derives, Sentence, Accepted, IsRefused, IsUnexpected, IsTooDeep}
+use Rattle.zig_parse.specs.declared.choice.Look.{Look}
+use Rattle.zig_parse.specs.declared.thread.Thread.{Thread}
 use Rattle.zig_parse.specs.Growth.{parse_of}
+use Rattle.zig_parse.specs.Moves.{moves_for_all, settled, settled_all}
 use Rattle.zig_parse.specs.Trees.{HoldsAll}
 
 -- a list of tokens has at most one tree
@@ -25,3 +30,11 @@ OneRefusal = (tokens : List TokenKind) (a b : ℕ) → IsRefused tokens a → Is
 
 abbrev pub OneReason : Type 0
 OneReason = (tokens : List TokenKind) (a b : ℕ) → IsUnexpected tokens a → IsTooDeep tokens b → ⊥
+
+-- what the rules derive is a sentence: it can't be that it has no tree that is preferred
+abbrev pub DerivedIsSentence : Type 0
+DerivedIsSentence = (tokens : List TokenKind) (tree : Pieces) → Derives (part.Rule rule.Root ∷ []) tokens [] tree → ((x : Pieces) → Sentence tokens x → ⊥) → ⊥
+
+-- more moves at a token give the same threads
+abbrev pub MovesSuffice : Type 0
+MovesSuffice = (n : ℕ) (look : Look) (at : ℕ) (ts : List Thread) → moves_for_all ts ≤ n → settled n look at ts ≡ settled_all look at ts

@@ -1,5 +1,5 @@
 -- What threads do before they read a token.
-use Rattle.std.specs.Prelude.{ℕ, zero, suc, Bool, true, false, ◌&&◌, nat_lt, List, [], ◌∷◌, ◌++◌, length, reverse, Option, Some, None, if◌then◌else◌}
+use Rattle.std.specs.Prelude.{ℕ, zero, suc, ◌+◌, ◌*◌, Bool, true, false, ◌&&◌, nat_lt, List, [], ◌∷◌, ◌++◌, length, reverse, Option, Some, None, if◌then◌else◌}
 use Rattle.zig_tree.specs.declared.token.TokenKind.TheVariants.{LeftBrace}
 use Rattle.zig_tree.specs.declared.grammar.Rule.{Rule}
 use Rattle.zig_tree.specs.declared.grammar.Part.{Part}
@@ -86,6 +86,18 @@ unfoldable pub settled : ℕ → Look → ℕ → List Thread → List Thread
 settled zero look at ts = []
 settled (suc moves) look at [] = []
 settled (suc moves) look at (t ∷ ts) = readers look t ++ settled moves look at (moving look at t ++ ts)
+
+-- enough moves: so many for each thing to come, and one for each node that is open
+abbrev pub moves_for : Thread → ℕ
+moves_for t = 30 * length t.items + length t.frames + 1
+
+abbrev pub moves_for_all : List Thread → ℕ
+moves_for_all [] = 0
+moves_for_all (t ∷ ts) = moves_for t + moves_for_all ts
+
+-- the threads that can read the token at this number, when each has moved until it can or ends
+unfoldable pub settled_all : Look → ℕ → List Thread → List Thread
+settled_all look at ts = settled (moves_for_all ts) look at ts
 
 -- whether two lists of what is to come have the same parts
 unfoldable pub same_parts : List Item → List Item → Bool

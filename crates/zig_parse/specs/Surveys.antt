@@ -12,7 +12,7 @@ use Rattle.zig_parse.specs.declared.survey.Verdict.{Verdict}
 use Rattle.zig_parse.specs.declared.survey.Verdict.TheVariants as verdict
 use Rattle.zig_parse.specs.declared.state.State.{State}
 use Rattle.zig_parse.specs.Stack.{rest}
-use Rattle.zig_parse.specs.Moves.{settled}
+use Rattle.zig_parse.specs.Moves.{settled_all}
 use Rattle.zig_parse.specs.Passes.{after_token, all_marked, alone, any_waits, begun, finished, inside, is_closed, marked_alone, resumed_top, those_waiting, verdict_of}
 
 -- the kind of a token, or that of the file's end
@@ -43,10 +43,10 @@ left_marks look live marks = if is_closed look live then all_marked live marks e
 
 -- the threads after a token, before a brace is left, and those that wait
 unfoldable pub read_live : Look → ℕ → State → List Thread
-read_live look at s = after_token [] (entered look (settled 10000000 look at s.live))
+read_live look at s = after_token [] (entered look (settled_all look at s.live))
 
 unfoldable pub read_waiting : Look → ℕ → State → List (List Thread)
-read_waiting look at s = entered_waiting (settled 10000000 look at s.live) s.waiting
+read_waiting look at s = entered_waiting (settled_all look at s.live) s.waiting
 
 -- the threads after a token
 unfoldable pub next_live : Look → ℕ → State → List Thread

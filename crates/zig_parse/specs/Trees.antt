@@ -8,8 +8,11 @@ use Rattle.zig_tree.specs.declared.grammar.Part.TheVariants as part
 use Rattle.zig_tree.specs.declared.tree.Kid.{Kid}
 use Rattle.zig_tree.specs.declared.tree.Kid.TheVariants as kid
 use Rattle.zig_tree.specs.declared.tree.Node.{Node}
-use Rattle.zig_tree.specs.GrammarSentences.{Pieces, nothing, word, node, Derives, height}
+use Rattle.zig_tree.specs.GrammarSentences.{Pieces, nothing, word, node, Derives, Sentence, height}
+use Rattle.zig_parse.specs.declared.fault.SyntaxFault.{SyntaxFault}
+use Rattle.zig_parse.specs.declared.fault.SyntaxFault.TheVariants.{Unexpected, TooDeep, OutOfMemory}
 use Rattle.zig_parse.specs.Nodes.{joined, token_span}
+use Rattle.zig_parse.specs.Surveys.{kind_of}
 
 -- the kinds of tokens
 abbrev pub kinds_of : List Token → List TokenKind
@@ -35,3 +38,13 @@ pub record HoldsAll (tokens : List Token) (nodes : List Node) (root : ℕ) : Typ
   pub spelled : Spells tokens nodes (kid.Node root ∷ []) 0 (length tokens) tree
   pub derived : Derives (part.Rule rule.Root ∷ []) (kinds_of tokens) [] tree
   pub low : height tree ≤ 200
+
+-- these kinds of token are a sentence: it can't be that they have no tree that is preferred
+unfoldable pub IsSentence : List TokenKind → Type 0
+IsSentence tokens = ((tree : Pieces) → Sentence tokens tree → ⊥) → ⊥
+
+-- a refusal names a token of the list and its kind, or the end behind the last one
+abbrev pub NamesToken : List Token → SyntaxFault → Type 0
+NamesToken tokens (Unexpected kind at) = (at ≤ length tokens) × (kind ≡ kind_of (slice_get tokens at))
+NamesToken tokens (TooDeep at) = at < length tokens
+NamesToken tokens OutOfMemory = Unit {0}

@@ -4,12 +4,12 @@ ghost use Rattle.zig_parse.specs.Choices.{offered};
 ghost use Rattle.zig_parse.specs.Growth.{known, moved, ready};
 ghost use Rattle.zig_parse.specs.Growth as spec;
 ghost use Rattle.zig_parse.specs.Grows.{grown};
+ghost use Rattle.zig_parse.specs.Moves.{moves_for};
 ghost use Rattle.zig_parse.specs.Surveys.{Gives};
 
 use crate::built::Built;
 use crate::choice::{Choice, Look, group_choice, rule_choice};
 use crate::fault::SyntaxFault;
-use crate::settle::MOVES;
 use crate::state::look_at;
 use crate::survey::begin;
 use crate::thread::{Move, Thread};
@@ -100,17 +100,15 @@ impl Growth {
     }
 
     /// Whether the token can be read, after the moves before it.
-    #[tactic(auto, using(crate::proofs::Tokens::ready_steps))]
     fn settle(&mut self, look: Look, second: bool, tokens: &[Token]) -> Result<bool, AllocError>
-        ensures fits { IfOk result (λ b. b ≡ (ready MOVES tokens.now look second (grown self.old)).fits) }
-        ensures after { OnOk result (grown self.new ≡ (ready MOVES tokens.now look second (grown self.old)).grown) }
+        ensures fits { IfOk result (λ b. b ≡ (ready (moves_for self.old.thread) tokens.now look second (grown self.old)).fits) }
+        ensures after { OnOk result (grown self.new ≡ (ready (moves_for self.old.thread) tokens.now look second (grown self.old)).grown) }
     {
-        for _ in 0..MOVES {
+        loop {
             if let Some(fits) = self.advance(look, second, tokens)? {
                 return Ok(fits);
             }
         }
-        Ok(false)
     }
 
     /// Reads a token.

@@ -1,5 +1,5 @@
 // Laws of the grammar and of the function on lists that the parser computes. They have no code.
-ghost use Rattle.zig_parse.specs.Laws.{NeverBoth, OneReason, OneRefusal, OneTree, ReadsTree};
+ghost use Rattle.zig_parse.specs.Laws.{DerivedIsSentence, MovesSuffice, NeverBoth, OneReason, OneRefusal, OneTree, ReadsTree};
 
 /// A list of tokens has at most one tree.
 pub fn one_tree()
@@ -16,4 +16,14 @@ pub fn one_answer()
     ensures apart { NeverBoth }
     ensures token { OneRefusal }
     ensures reason { OneReason }
+{}
+
+/// What the rules derive is a sentence: among its trees one is preferred.
+pub fn derived_is_sentence()
+    ensures { DerivedIsSentence }
+{}
+
+/// At a token each thread has no more moves than its open nodes and the things to come tell.
+pub fn moves_suffice()
+    ensures { MovesSuffice }
 {}

@@ -1,8 +1,8 @@
 // From tokens to the tree or the refused token.
-ghost use Rattle.std.specs.Prelude.{◌≡◌, ◌+◌, IfOk, length};
+ghost use Rattle.std.specs.Prelude.{◌≡◌, ◌+◌, IfErr, IfOk, length};
 ghost use Rattle.zig_parse.specs.Growth.{parse_of};
 ghost use Rattle.zig_parse.specs.Surveys.{Gives};
-ghost use Rattle.zig_parse.specs.Trees.{HoldsAll};
+ghost use Rattle.zig_parse.specs.Trees.{HoldsAll, IsSentence, NamesToken, kinds_of};
 
 use crate::fault::SyntaxFault;
 use crate::grow::grow;
@@ -19,6 +19,10 @@ pub fn parse(alloc: Global, tokens: &[Token]) -> Result<Tree, SyntaxFault>
     ensures root { IfOk result (λ t. t.root + 1 ≡ length t.nodes) }
     // The root holds all tokens, each once and in order, by rules that derive them, no deeper than 200.
     ensures tree { IfOk result (λ t. HoldsAll tokens.now t.nodes t.root) }
+    // So the tokens are a sentence: no other list has a tree.
+    ensures sentence { IfOk result (λ _. IsSentence (kinds_of tokens.now)) }
+    // A refusal names a token and its kind.
+    ensures refused { IfErr result (NamesToken tokens.now) }
 {
     let Ok(count) = u32::try_from(tokens.len()) else {
         return Err(SyntaxFault::OutOfMemory);

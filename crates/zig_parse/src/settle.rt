@@ -1,7 +1,7 @@
 // Threads up to the point at which each has a token in front.
 ghost use Rattle.std.specs.Prelude.{◌≡◌, ◌++◌, OnOk, IfOk};
 ghost use Rattle.zig_parse.specs.Choices.{offered};
-ghost use Rattle.zig_parse.specs.Moves.{moving, readers, settled};
+ghost use Rattle.zig_parse.specs.Moves.{moving, readers, settled_all};
 ghost use Rattle.zig_parse.specs.Moves as spec;
 ghost use Rattle.zig_parse.specs.Threads.{replaced};
 
@@ -10,9 +10,6 @@ use crate::stack::Stack;
 use crate::thread::{Move, Thread};
 use std::alloc::{AllocError, Global};
 use zig_tree::{Part, Rule};
-
-/// How many moves all threads together have at one token. The limit on depth keeps them far below it.
-pub const MOVES: u32 = 10_000_000;
 
 /// Replaces the first of what is to come by the parts of an alternative.
 fn replace(thread: &mut Thread, rule: Option<Rule>, parts: &[Part]) -> Result<(), AllocError>
@@ -85,7 +82,6 @@ fn advance(
     }
 }
 
-#[tactic(auto, using(crate::proofs::Steps::settled_steps))]
 /// The threads that can read the token at this number, in order of preference.
 pub fn settle(
     alloc: Global,
@@ -93,13 +89,10 @@ pub fn settle(
     look: Look,
     at: u32,
 ) -> Result<Vec<Thread>, AllocError>
-    ensures { IfOk result (λ v. v.items ≡ settled MOVES look at pending) }
+    ensures { IfOk result (λ v. v.items ≡ settled_all look at pending) }
 {
     let mut ready = Vec::new(alloc);
-    for _ in 0..MOVES {
-        let Some(thread) = pending.pop() else {
-            break;
-        };
+    while let Some(thread) = pending.pop() {
         advance(alloc, thread, look, at, &mut pending, &mut ready)?;
     }
     Ok(ready)

@@ -1,6 +1,10 @@
-use Rattle.std.proofs.Common.{◌≡◌, ◌-◌, ◌++◌}
-use Rattle.zig_parse.specs.Moves.{settled}
+use Rattle.std.proofs.Common.{◌≡◌, ◌++◌}
+use Rattle.zig_parse.specs.Moves.{settled_all}
+use Rattle.zig_parse.proofs.Costs.{total_work}
 use Rattle.zig_parse.proofs.settle.settle.Given as goal
 
-abbrev pub invariant-loop : goal.invariant-loop
-invariant-loop l = l.ready.items ++ settled (10000000 - l.counter) l.look l.at l.pending ≡ settled 10000000 l.look l.at l.fn.pending
+abbrev pub invariant-loop-thread : goal.invariant-loop-thread
+invariant-loop-thread l = l.ready.items ++ settled_all l.look l.at l.pending ≡ settled_all l.look l.at l.fn.pending
+
+abbrev pub decreases-loop-thread : goal.decreases-loop-thread
+decreases-loop-thread l = total_work l.pending

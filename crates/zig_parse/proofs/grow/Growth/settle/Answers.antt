@@ -1,10 +1,17 @@
-use Rattle.std.proofs.Common.{ap}
-use Rattle.zig_parse.specs.Growth.{Ready}
-use Rattle.zig_parse.proofs.Tokens.{ready_out}
+use Rattle.std.proofs.Common.{◌≡◌, ◌∙◌, sym, Some, None}
+use Rattle.zig_parse.specs.Growth.{known}
+use Rattle.zig_parse.specs.Grows.{grown}
+use Rattle.zig_parse.proofs.Costs.{ready_next, ready_less, ready_told}
 use Rattle.zig_parse.proofs.grow.Growth.settle.Goals as goal
 
-pub returns-clause-fits : goal.returns-clause-fits
-returns-clause-fits c = ap (λ (r : Ready). r.fits) (ready_out _ _ _ _ _ _ _ c.loop-test.false c.loop.invariant)
+pub returns-in-Some-clause-fits : goal.returns-in-Some-clause-fits
+returns-in-Some-clause-fits c = (ready_told _ _ _ c.in-Some.fits (grown c.loop-fits.self) (grown c.advance.new.self) _ c.in_ok-fits.ensures.after (sym c.in-Some.is ∙ c.in_ok-fits.ensures.known) c.loop-fits.invariant).0
 
-pub returns-clause-after : goal.returns-clause-after
-returns-clause-after c = ap (λ (r : Ready). r.grown) (ready_out _ _ _ _ _ _ _ c.loop-test.false c.loop.invariant)
+pub returns-in-Some-clause-after : goal.returns-in-Some-clause-after
+returns-in-Some-clause-after c = (ready_told _ _ _ c.in-Some.fits (grown c.loop-fits.self) (grown c.advance.new.self) _ c.in_ok-fits.ensures.after (sym c.in-Some.is ∙ c.in_ok-fits.ensures.known) c.loop-fits.invariant).1
+
+pub loop-fits-smaller : goal.loop-fits-smaller
+loop-fits-smaller c = ready_less _ _ _ (grown c.loop-fits.self) (grown c.advance.new.self) c.in_ok-fits.ensures.after (sym c.in_default.is ∙ c.in_ok-fits.ensures.known)
+
+pub loop-fits-preserved : goal.loop-fits-preserved
+loop-fits-preserved c = ready_next _ _ _ (grown c.loop-fits.self) (grown c.advance.new.self) _ c.in_ok-fits.ensures.after (sym c.in_default.is ∙ c.in_ok-fits.ensures.known) c.loop-fits.invariant
