@@ -1,10 +1,10 @@
 -- Slots of a level, and what a row put into one does to them.
-use Rattle.std.proofs.Common.{◌≡◌, ◌≢◌, ◌⊎◌, inl, inr, ⊎_elim, ℕ, zero, suc, ◌+◌, ◌-◌, ◌*◌, ◌<◌, ◌≤◌, List, [], ◌∷◌, ◌++◌, length, get_or, set, replicate, refl, sym, ap, ◌∙◌, subst, arith, get_or-set_same, get_or-set_other, length-append, slice_index}
+use Rattle.std.proofs.Common.{◌≡◌, ◌≢◌, ⊎_elim, ℕ, zero, suc, ◌+◌, ◌<◌, List, [], ◌∷◌, ◌++◌, length, set, replicate, refl, sym, ap, ◌∙◌, subst, arith, get_or-set_same, get_or-set_other, length-append, slice_index}
 use Rattle.std.proofs.lemmas.Bool.{cases_eq}
-use Rattle.std.proofs.lemmas.List.{get_or-replicate, length-set, length-replicate}
+use Rattle.std.proofs.lemmas.List.{get_or-replicate}
 use Rattle.pool_words.specs.Layout.{Row, width, spot}
 use Rattle.pool_words.specs.Rule.{In, Stands, HasRows, taken}
-use Rattle.pool_words.proofs.Places.{spot_in, spot_reaches, width_pos}
+use Rattle.pool_words.proofs.Places.{spot_in, spot_reaches}
 use Rattle.pool_words.proofs.Members.{In-push, In-left, In-last}
 
 -- slots that are not 0 stay

@@ -6,3 +6,4 @@ pub mod Shards
 pub mod Orders
 pub mod Opening
 pub mod Turns
+pub mod Growing

@@ -1,13 +1,13 @@
 -- What stands in a list, in a part of it, and among the rows of a shard.
-use Rattle.std.proofs.Common.{◌≡◌, ◌≢◌, ◌⊎◌, inl, inr, ⊎_elim, ℕ, zero, suc, ◌+◌, ◌<◌, ◌≤◌, ◌==◌, Bool, true, false, cond, List, [], ◌∷◌, ◌++◌, length, take, refl, sym, ap, ◌∙◌, subst, arith, length-append}
-use Rattle.std.proofs.lemmas.Bool.{eqb-true, eq-eqb, ne_eqb, cases_Bool}
+use Rattle.std.proofs.Common.{◌≡◌, ◌⊎◌, inl, inr, ⊎_elim, ℕ, zero, suc, ◌+◌, ◌≤◌, ◌==◌, Bool, true, false, cond, List, [], ◌∷◌, ◌++◌, length, take, refl, sym, ap, ◌∙◌, subst, arith}
+use Rattle.std.proofs.lemmas.Bool.{eqb-true, eq-eqb, ne_eqb}
 use Rattle.std.proofs.lemmas.List.{append-nil, append_assoc, take-append-le}
 use Rattle.std.proofs.lemmas.List.Elements.{filter-append}
-use Rattle.std.proofs.lemmas.List.Sums.{sum_by_push}
+use Rattle.std.proofs.lemmas.List.Sums.{sum_by_push, sum_by-cons}
 use Rattle.std.specs.List.{filter}
 use Rattle.pool_words.specs.declared.view.Layout.{Layout}
 use Rattle.pool_words.specs.Layout.{Row, rows_of, shard_of, used}
-use Rattle.pool_words.specs.Rule.{In, Extends}
+use Rattle.pool_words.specs.Rule.{In, Extends, Laid}
 
 module _ {X : Type 0} where
   pub In-left : (x : X) (xs ys : List X) → In x xs → In x (xs ++ ys)
@@ -106,3 +106,11 @@ In-extends r log log' f h = subst (λ (l : List Row). In r l) (sym f.1) (In-left
 -- the first rows of a longer list
 pub take-push : (n : ℕ) (rows : List Row) (r : Row) → n ≤ length rows → take n (rows ++ r ∷ []) ≡ take n rows
 take-push n rows r h = take-append-le n rows (r ∷ []) h
+
+pub used-cons : (r : Row) (rows : List Row) → used (r ∷ rows) ≡ length r.1 + 1 + used rows
+unfolding used
+used-cons r rows = sum_by-cons (λ (q : Row). length q.1 + 1) r rows
+
+pub Laid-push : (place : ℕ) (rows : List Row) (r : Row) → Laid place rows → r.0 ≡ place + used rows → Laid place (rows ++ r ∷ [])
+Laid-push place [] r h e = let u = used-nil in (omega arith, tt)
+Laid-push place (q ∷ rows) r h e = let u = used-cons q rows in (h.0, Laid-push (place + (length q.1 + 1)) rows r h.1 (omega arith))

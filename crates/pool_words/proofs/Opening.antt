@@ -1,15 +1,15 @@
 -- The rule of a pool in which nothing was published.
-use Rattle.std.proofs.Common.{◌≡◌, ◌≢◌, ◌⊎◌, inl, inr, ⊎_elim, ℕ, zero, suc, ◌+◌, ◌*◌, ◌<◌, ◌≤◌, List, [], ◌∷◌, ◌++◌, map, length, get_or, set, take, replicate, refl, sym, ap, ◌∙◌, subst, arith, slice_index}
+use Rattle.std.proofs.Common.{◌≡◌, inl, inr, ⊎_elim, ℕ, zero, suc, ◌+◌, ◌<◌, ◌≤◌, List, [], ◌∷◌, replicate, refl, sym, ◌∙◌, subst, arith}
 use Rattle.std.proofs.lemmas.Bool.{cases_lt}
 use Rattle.std.proofs.lemmas.List.{get_or-replicate, length-replicate}
 use mathlib.Core.Option.{some, some-injective, some-ne-none}
 use lib.ListN.{get_elem?}
-use Rattle.atomic_table.specs.Table.{State, opening}
+use Rattle.atomic_table.specs.Table.{opening}
 use Rattle.pool_words.specs.declared.view.Layout.{Layout}
 use Rattle.pool_words.specs.declared.view.View.{View}
-use Rattle.pool_words.specs.Layout.{Row, width, half, level_at, used, base, start, rows_of, head, level, IsLayout}
-use Rattle.pool_words.specs.Rule.{In, HasRows, IsShard, IsPool, Same}
-use Rattle.pool_words.specs.Views.{below, first_view, Seats, Knows, IsShared, Holds}
+use Rattle.pool_words.specs.Layout.{width, level_at, base, start, rows_of, head, level, IsLayout}
+use Rattle.pool_words.specs.Rule.{In, HasRows, Laid, IsShard, IsPool}
+use Rattle.pool_words.specs.Views.{below, first_view, Knows, Holds}
 use Rattle.pool_words.proofs.Windows.{window_replicate}
 use Rattle.pool_words.proofs.Members.{used-nil}
 use Rattle.pool_words.proofs.Places.{level_ends, start_low, start_pos, base_in}
@@ -42,9 +42,10 @@ IsPool-empty z l = record {
       let a = start_low z l in
       let q = start_pos z in
       subst (IsShard z (head z (replicate z.words 0) s) (level z (replicate z.words 0) s)) (sym (no_rows z s))
-          (IsShard-empty z (head z (replicate z.words 0) s) (level z (replicate z.words 0) s) l (get_or-replicate z.words (base z s) 0 0 (omega arith))
-              (λ k le. let e = level_ends z k le in window_replicate z.words (base z s + level_at k) (width k) 0 (omega arith)));
+      (IsShard-empty z (head z (replicate z.words 0) s) (level z (replicate z.words 0) s) l (get_or-replicate z.words (base z s) 0 0 (omega arith))
+      (λ k le. let e = level_ends z k le in window_replicate z.words (base z s + level_at k) (width k) 0 (omega arith)));
   row = λ r h. absurd h;
+  placed = λ s lt. subst (Laid (base z s + start z)) (sym (no_rows z s)) tt;
   once = λ i j key h. absurd h;
 }
 

@@ -1,16 +1,16 @@
 -- Pools in the order of their steps, and shards that stay.
-use Rattle.std.proofs.Common.{◌≡◌, ◌≢◌, ◌⊎◌, inl, inr, ⊎_elim, ℕ, zero, suc, ◌+◌, ◌-◌, ◌*◌, ◌<◌, ◌≤◌, List, [], ◌∷◌, ◌++◌, length, get_or, set, refl, sym, ap, ◌∙◌, subst, arith, slice_index}
+use Rattle.std.proofs.Common.{◌≡◌, ◌≢◌, ⊎_elim, ℕ, suc, ◌+◌, ◌-◌, ◌<◌, ◌≤◌, List, [], ◌∷◌, ◌++◌, length, set, take, refl, sym, ap, ◌∙◌, subst, arith, slice_index}
 use Rattle.std.proofs.lemmas.Bool.{cases_eq, cases_lt}
 use Rattle.std.proofs.lemmas.List.{take_all}
 use Rattle.pool_words.specs.declared.view.Layout.{Layout}
 use Rattle.pool_words.specs.Layout.{Row, window, width, half, level_at, spot, used, shard_of, base, start, rows_of, head, level, IsLayout}
-use Rattle.pool_words.specs.Rule.{In, Stands, HasRows, IsShard, IsPool, Extends, Earlier, Same}
-use Rattle.pool_words.specs.Views.{IsFree}
+use Rattle.pool_words.specs.Rule.{In, Stands, HasRows, IsPool, Earlier, Same}
+use Rattle.pool_words.specs.Views.{IsFree, IsNext, IsFull}
 use Rattle.pool_words.proofs.Windows.{window_out, window_at, window_part, index_part}
-use Rattle.pool_words.proofs.Members.{In-push, In-extends, Extends-refl, Extends-trans, Extends-push, In-rows_of, rows_of-In, rows_of-push, rows_of-other, rows_of-append}
-use Rattle.pool_words.proofs.Places.{level_pos, level_ends, start_low, start_pos, shard_in, base_in, other_shard}
+use Rattle.pool_words.proofs.Members.{In-extends, Extends-refl, Extends-trans, Extends-push, In-rows_of, rows_of-append}
+use Rattle.pool_words.proofs.Places.{level_ends, start_low, start_pos, other_shard}
 use Rattle.pool_words.proofs.Levels.{KeepsSlots, Stands-kept, set_keeps}
-use Rattle.pool_words.proofs.Shards.{Spares, head_spared, level_spared, private_spares, publish_spares, publish_head, publish_live, publish_else, IsPool-publish}
+use Rattle.pool_words.proofs.Shards.{Spares, head_spared, level_spared, private_spares, publish_spares, publish_head, publish_live, publish_else}
 
 -- each row of a shard stands in its live level
 pub stands_live : (z : Layout) (ws : List ℕ) (log : List Row) (s : ℕ) (r : Row) → s < z.shards → IsPool z ws log → In r log → shard_of z r.1 ≡ s → Stands (level z ws s (head z ws s)) (head z ws s) r
@@ -39,8 +39,8 @@ Earlier-trans z ws log ws' log' ws'' log'' a b = record {
       b.slots s k j l (omega arith) lt (λ q. n (sym e ∙ q)) ∙ e;
   reached = λ s k r l low high i e.
       ⊎_elim (λ g. b.reached s k r l (omega arith) high (In-extends r log log' a.grows i) e)
-          (λ m. Stands-kept (level z ws' s k) (level z ws'' s k) k r (λ j lt n. b.slots s k j l m lt n) (a.reached s k r l low m i e))
-          (cases_lt (head z ws' s) k);
+      (λ m. Stands-kept (level z ws' s k) (level z ws'' s k) k r (λ j lt n. b.slots s k j l m lt n) (a.reached s k r l low m i e))
+      (cases_lt (head z ws' s) k);
 }
 
 -- the same levels and heads, with what was there and perhaps more
@@ -70,7 +70,7 @@ module _ (z : Layout) (ws : List ℕ) (log : List Row) (word : ℕ) (r : Row) (h
       own_stay : (k : ℕ) → k ≤ z.top → KeepsSlots (level z ws (shard_of z r.1) k) (level z (set ws word (r.0 + 1)) (shard_of z r.1) k) k
       own_stay k le = ⊎_elim
           (λ e. subst (λ m. KeepsSlots (level z ws (shard_of z r.1) m) (level z (set ws word (r.0 + 1)) (shard_of z r.1) m) m) (sym e)
-              (λ j l n. ap (λ slots. slice_index slots j) (publish_live z ws log word r h p f) ∙ set_keeps (level z ws (shard_of z r.1) (head z ws (shard_of z r.1))) (head z ws (shard_of z r.1)) (spot r.1 (head z ws (shard_of z r.1)) f.far) (r.0 + 1) f.free j l n))
+          (λ j l n. ap (λ slots. slice_index slots j) (publish_live z ws log word r h p f) ∙ set_keeps (level z ws (shard_of z r.1) (head z ws (shard_of z r.1))) (head z ws (shard_of z r.1)) (spot r.1 (head z ws (shard_of z r.1)) f.far) (r.0 + 1) f.free j l n))
           (λ ne j l n. ap (λ slots. slice_index slots j) (publish_else z ws log word r h p f k le ne))
           (cases_eq k (head z ws (shard_of z r.1)))
 
@@ -143,4 +143,33 @@ IsFree-same z ws log ws' log' word r h top e f =
       free = subst (λ n. slice_index (level z ws' (shard_of z r.1) n) (spot r.1 n f.far) ≡ 0) hd (subst (λ slots. slice_index slots (spot r.1 (head z ws (shard_of z r.1)) f.far) ≡ 0) lv f.free);
       run = λ d l. subst (λ n. slice_index (level z ws' (shard_of z r.1) n) (spot r.1 n d) ≢ 0) hd (subst (λ slots. slice_index slots (spot r.1 (head z ws (shard_of z r.1)) d) ≢ 0) lv (f.run d l));
       new = λ i m. f.new i (subst (In (i, r.1)) (sym e.rows) m);
+    }
+
+-- what may be filled in, or is full, is so where the shard is the same
+pub IsNext-same : (z : Layout) (ws : List ℕ) (log : List Row) (ws' : List ℕ) (log' : List Row) (s h n word : ℕ) (r : Row) → IsLayout z → Same z s ws log ws' log' → IsNext z ws log s h n word r → IsNext z ws' log' s h n word r
+IsNext-same z ws log ws' log' s h n word r l e f =
+    let t = f.below_top in
+    let lv : level z ws s (suc h) ≡ level z ws' s (suc h) = level_same z s (suc h) ws log ws' log' l (omega arith) e in
+    record {
+      live = sym (head_same z s ws log ws' log' l e) ∙ f.live;
+      below_top = f.below_top;
+      filled = subst (λ slots. HasRows slots (suc h) (take n (rows_of z s log'))) lv (subst (λ (rows : List Row). HasRows (level z ws s (suc h)) (suc h) (take n rows)) e.rows f.filled);
+      left = subst (λ (rows : List Row). n < length rows) e.rows f.left;
+      next = subst (λ (rows : List Row). take (suc n) rows ≡ take n rows ++ r ∷ []) e.rows f.next;
+      far = f.far;
+      within = f.within;
+      slot = f.slot;
+      free = subst (λ slots. slice_index slots (spot r.1 (suc h) f.far) ≡ 0) lv f.free;
+      run = λ d m. subst (λ slots. slice_index slots (spot r.1 (suc h) d) ≢ 0) lv (f.run d m);
+    }
+
+pub IsFull-same : (z : Layout) (ws : List ℕ) (log : List Row) (ws' : List ℕ) (log' : List Row) (s h : ℕ) → IsLayout z → Same z s ws log ws' log' → IsFull z ws log s h → IsFull z ws' log' s h
+IsFull-same z ws log ws' log' s h l e f =
+    let t = f.below_top in
+    let lv : level z ws s (suc h) ≡ level z ws' s (suc h) = level_same z s (suc h) ws log ws' log' l (omega arith) e in
+    record {
+      live = sym (head_same z s ws log ws' log' l e) ∙ f.live;
+      below_top = f.below_top;
+      filled = subst (λ slots. HasRows slots (suc h) (rows_of z s log')) lv (subst (HasRows (level z ws s (suc h)) (suc h)) e.rows f.filled);
+      many = subst (λ (rows : List Row). half h ≤ length rows) e.rows f.many;
     }

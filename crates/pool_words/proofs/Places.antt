@@ -1,5 +1,5 @@
 -- Where shards and levels lie.
-use Rattle.std.proofs.Common.{◌≡◌, ◌≢◌, ◌⊎◌, inl, inr, ⊎_elim, ℕ, zero, suc, ◌+◌, ◌-◌, ◌*◌, ◌/◌, ◌%◌, ◌^◌, ◌<◌, ◌≤◌, List, [], ◌∷◌, length, refl, sym, ap, ◌∙◌, subst, arith, mul-le-mul_right, suc-mul}
+use Rattle.std.proofs.Common.{◌≡◌, ◌⊎◌, inl, inr, ⊎_elim, ℕ, suc, ◌+◌, ◌-◌, ◌*◌, ◌/◌, ◌%◌, ◌^◌, ◌<◌, ◌≤◌, List, refl, ap, ◌∙◌, arith, mul-le-mul_right, suc-mul}
 use Rattle.std.proofs.lemmas.Bool.{cases_lt, cases_order}
 use Rattle.std.proofs.lemmas.Nat.{pow_pos, mod-mul-add}
 use Rattle.std.proofs.Math.Nat.{pow-suc, pow-le-pow_right, mod-lt, mod-add-div', mod-add-mod}
@@ -13,6 +13,10 @@ width_pos k = let p : 0 < 2 ^ k = pow_pos k in let q : ℕ = 2 ^ k in let p' : 0
 pub halves : (k : ℕ) → half k + half k ≡ width k
 unfolding half width
 halves k = let q : ℕ = 2 ^ k in let r : 32 * q + 32 * q ≡ 64 * q = omega arith in r
+
+pub half_mono : (k l : ℕ) → k ≤ l → half k ≤ half l
+unfolding half
+half_mono k l h = let e : 2 ^ k ≤ 2 ^ l = pow-le-pow_right {n = 2} (omega arith) h in let a : ℕ = 2 ^ k in let b : ℕ = 2 ^ l in let e' : a ≤ b = e in omega arith
 
 pub half_pos : (k : ℕ) → 32 ≤ half k
 unfolding half

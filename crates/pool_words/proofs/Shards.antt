@@ -1,15 +1,15 @@
 -- What a store does to a shard, to a row and to the pool.
-use Rattle.std.proofs.Common.{◌≡◌, ◌≢◌, ◌⊎◌, inl, inr, ⊎_elim, ℕ, zero, suc, ◌+◌, ◌-◌, ◌*◌, ◌<◌, ◌≤◌, ◌==◌, Bool, true, false, cond, List, [], ◌∷◌, ◌++◌, length, get_or, set, take, replicate, refl, sym, ap, ◌∙◌, subst, arith, get_or-set_same, get_or-set_other, length-append, slice_index}
+use Rattle.std.proofs.Common.{◌≡◌, ◌≢◌, ◌⊎◌, inl, inr, ⊎_elim, ℕ, suc, ◌+◌, ◌<◌, ◌≤◌, ◌==◌, cond, List, [], ◌∷◌, ◌++◌, length, set, take, refl, sym, ap, ◌∙◌, subst, arith, get_or-set_other, length-append, slice_index}
 use Rattle.std.proofs.lemmas.Bool.{cases_eq, cases_lt, cases_order, eq-eqb, ne_eqb}
-use Rattle.std.proofs.lemmas.List.{get_or-replicate, length-set, length-replicate, take_all}
+use Rattle.std.proofs.lemmas.List.{length-set, take_all}
 use Rattle.pool_words.specs.declared.view.Layout.{Layout}
-use Rattle.pool_words.specs.Layout.{Row, window, width, half, level_at, spot, used, shard_of, base, start, rows_of, head, level, IsLayout}
-use Rattle.pool_words.specs.Rule.{In, Stands, HasRows, taken, IsShard, IsRow, IsPool}
+use Rattle.pool_words.specs.Layout.{Row, width, half, level_at, spot, used, shard_of, base, start, rows_of, head, level, IsLayout}
+use Rattle.pool_words.specs.Rule.{In, HasRows, IsShard, IsRow, Laid, IsPool}
 use Rattle.pool_words.specs.Views.{IsFree}
-use Rattle.pool_words.proofs.Windows.{window_length, window_index, window_out, window_at, window_replicate}
-use Rattle.pool_words.proofs.Members.{In-push, In-left, In-last, rows_of-In, In-rows_of, rows_of-push, rows_of-other, used-push, used-nil, take-push}
-use Rattle.pool_words.proofs.Places.{width_pos, half_pos, level_first, level_pos, level_next, level_mono, level_apart, level_ends, start_low, start_pos, spot_in, shard_in, base_apart, base_in, other_shard}
-use Rattle.pool_words.proofs.Levels.{Stands-kept, HasRows-set, HasRows-none}
+use Rattle.pool_words.proofs.Windows.{window_length, window_out, window_at}
+use Rattle.pool_words.proofs.Members.{In-push, In-rows_of, rows_of-push, rows_of-other, used-push, take-push, Laid-push}
+use Rattle.pool_words.proofs.Places.{level_pos, level_apart, level_ends, start_low, start_pos, spot_in, shard_in, base_in, other_shard}
+use Rattle.pool_words.proofs.Levels.{HasRows-set}
 
 -- a shard reads its levels alone
 pub IsShard-same : (z : Layout) (h h' : ℕ) (levels levels' : ℕ → List ℕ) (rows : List Row) → h' ≡ h → ((k : ℕ) → k ≤ z.top → levels' k ≡ levels k) → IsShard z h levels rows → IsShard z h' levels' rows
@@ -30,17 +30,17 @@ IsShard-same z h h' levels levels' rows e same b = subst (λ n. IsShard z n leve
 pub held_few : (z : Layout) (h : ℕ) (levels : ℕ → List ℕ) (rows : List Row) (b : IsShard z h levels rows) (k : ℕ) → b.held k ≤ length rows
 held_few z h levels rows b k =
     ⊎_elim (λ l. let r = b.rising k h (omega arith) (omega arith) in let e = b.live in omega arith)
-        (λ g. ⊎_elim (λ e. let n = b.next in subst (λ m. b.held m ≤ length rows) (sym e) n) (λ o. ⊎_elim (λ l. let r = b.rising k h (omega arith) (omega arith) in let e = b.live in omega arith) (λ m. let e = b.later k m in omega arith) o) (cases_order k (suc h)))
-        (cases_lt k h)
+    (λ g. ⊎_elim (λ e. let n = b.next in subst (λ m. b.held m ≤ length rows) (sym e) n) (λ o. ⊎_elim (λ l. let r = b.rising k h (omega arith) (omega arith) in let e = b.live in omega arith) (λ m. let e = b.later k m in omega arith) o) (cases_order k (suc h)))
+    (cases_lt k h)
 
-bumped : ℕ → (ℕ → ℕ) → ℕ → ℕ
+pub bumped : ℕ → (ℕ → ℕ) → ℕ → ℕ
 bumped h held k = cond (k == h) (suc (held h)) (held k)
 
-bumped_here : (h : ℕ) (held : ℕ → ℕ) (k : ℕ) → k ≡ h → bumped h held k ≡ suc (held h)
+pub bumped_here : (h : ℕ) (held : ℕ → ℕ) (k : ℕ) → k ≡ h → bumped h held k ≡ suc (held h)
 unfolding bumped
 bumped_here h held k e = ap (λ b. cond b (suc (held h)) (held k)) (eq-eqb k h e)
 
-bumped_else : (h : ℕ) (held : ℕ → ℕ) (k : ℕ) → (k ≡ h → ⊥) → bumped h held k ≡ held k
+pub bumped_else : (h : ℕ) (held : ℕ → ℕ) (k : ℕ) → (k ≡ h → ⊥) → bumped h held k ≡ held k
 unfolding bumped
 bumped_else h held k e = ap (λ b. cond b (suc (held h)) (held k)) (ne_eqb k h e)
 
@@ -134,6 +134,29 @@ IsRow-set z ws log log' r i x q out more = record {
   whole = window_out ws r.0 (suc (length r.1)) i x out ∙ q.whole;
 }
 
+-- a store among the head and the levels of a shard, after which it is a shard still
+module _ (z : Layout) (ws : List ℕ) (log : List Row) (s i x : ℕ) (h : IsLayout z) (p : IsPool z ws log) (in_range : s < z.shards) (from : base z s ≤ i) (to : i < base z s + start z) where
+  pub levels_spare : (t : ℕ) → (s ≡ t → ⊥) → Spares z t i
+  levels_spare t ne = let c = start_low z h in spares_other z s t i h ne from (omega arith)
+
+  row_apart : (r : Row) → In r log → (i < r.0) ⊎ (r.0 + suc (length r.1) ≤ i)
+  row_apart r q =
+      let w = row_in z ws log r h p q in
+      let c = start_low z h in
+      ⊎_elim (λ e. let g : base z s ≡ base z (shard_of z r.1) = ap (base z) e in inl (omega arith))
+      (λ ne. ⊎_elim (λ l. inl (omega arith)) (λ g. inr (omega arith)) (other_shard z s (shard_of z r.1) i ne from (omega arith))) (cases_eq s (shard_of z r.1))
+
+  pub IsPool-levels : IsShard z (head z (set ws i x) s) (level z (set ws i x) s) (rows_of z s log) → IsPool z (set ws i x) log
+  IsPool-levels new = record {
+    long = length-set ws i x ∙ p.long;
+    shard = λ t l. ⊎_elim (λ e. subst (λ t. IsShard z (head z (set ws i x) t) (level z (set ws i x) t) (rows_of z t log)) e new)
+        (λ ne. IsShard-same z (head z ws t) (head z (set ws i x) t) (level z ws t) (level z (set ws i x) t) (rows_of z t log) (head_spared z ws t i x (levels_spare t ne)) (λ k le. level_spared z ws t k i x le (levels_spare t ne)) (p.shard t l))
+        (cases_eq s t);
+    row = λ r q. IsRow-set z ws log log r i x (p.row r q) (row_apart r q) (omega arith);
+    placed = p.placed;
+    once = p.once;
+  }
+
 -- a store behind the rows of a shard
 module _ (z : Layout) (ws : List ℕ) (log : List Row) (s i x : ℕ) (h : IsLayout z) (p : IsPool z ws log) (in_range : s < z.shards) (above : base z s + (start z + used (rows_of z s log)) ≤ i) (inside : i < base z s + z.size) where
   pub private_spares : (t : ℕ) → Spares z t i
@@ -158,6 +181,7 @@ module _ (z : Layout) (ws : List ℕ) (log : List Row) (s i x : ℕ) (h : IsLayo
     long = length-set ws i x ∙ p.long;
     shard = λ t l. IsShard-same z (head z ws t) (head z (set ws i x) t) (level z ws t) (level z (set ws i x) t) (rows_of z t log) (head_spared z ws t i x (private_spares t)) (λ k le. level_spared z ws t k i x le (private_spares t)) (p.shard t l);
     row = λ r q. IsRow-set z ws log log r i x (p.row r q) (row_out r q) (omega arith);
+    placed = p.placed;
     once = p.once;
   }
 
@@ -192,7 +216,7 @@ module _ (z : Layout) (ws : List ℕ) (log : List Row) (word : ℕ) (r : Row) (h
       let e = f.slot in
       let q = spot_in r.1 live f.far in
       window_out ws (base z s + level_at k) (width k) word (r.0 + 1)
-          (⊎_elim (λ c. absurd (ne c)) (λ o. ⊎_elim (λ l. let a = level_apart k live l in inr (omega arith)) (λ g. let a = level_apart live k g in inl (omega arith)) o) (cases_order k live))
+      (⊎_elim (λ c. absurd (ne c)) (λ o. ⊎_elim (λ l. let a = level_apart k live l in inr (omega arith)) (λ g. let a = level_apart live k g in inl (omega arith)) o) (cases_order k live))
 
   level_long : length (level z ws (shard_of z r.1) (head z ws (shard_of z r.1))) ≡ width (head z ws (shard_of z r.1))
   level_long =
@@ -205,13 +229,13 @@ module _ (z : Layout) (ws : List ℕ) (log : List Row) (word : ℕ) (r : Row) (h
   own_shard : IsShard z (head z (set ws word (r.0 + 1)) (shard_of z r.1)) (level z (set ws word (r.0 + 1)) (shard_of z r.1)) (rows_of z (shard_of z r.1) (log ++ r ∷ []))
   own_shard =
       subst (λ n. IsShard z n (level z (set ws word (r.0 + 1)) s) (rows_of z s (log ++ r ∷ []))) (sym publish_head)
-          (subst (λ rows. IsShard z live (level z (set ws word (r.0 + 1)) s) rows) (sym (rows_of-push z s log r refl))
-              (IsShard-push z live (level z ws s) (level z (set ws word (r.0 + 1)) s) (rows_of z s log) r f.far own level_long f.within f.free f.run publish_live publish_else f.few_rows f.room))
+      (subst (λ rows. IsShard z live (level z (set ws word (r.0 + 1)) s) rows) (sym (rows_of-push z s log r refl))
+      (IsShard-push z live (level z ws s) (level z (set ws word (r.0 + 1)) s) (rows_of z s log) r f.far own level_long f.within f.free f.run publish_live publish_else f.few_rows f.room))
 
   other : (t : ℕ) → t < z.shards → (shard_of z r.1 ≡ t → ⊥) → IsShard z (head z (set ws word (r.0 + 1)) t) (level z (set ws word (r.0 + 1)) t) (rows_of z t (log ++ r ∷ []))
   other t l ne =
       subst (λ rows. IsShard z (head z (set ws word (r.0 + 1)) t) (level z (set ws word (r.0 + 1)) t) rows) (sym (rows_of-other z t log r ne))
-          (IsShard-same z (head z ws t) (head z (set ws word (r.0 + 1)) t) (level z ws t) (level z (set ws word (r.0 + 1)) t) (rows_of z t log) (head_spared z ws t word (r.0 + 1) (publish_spares t ne)) (λ k le. level_spared z ws t k word (r.0 + 1) le (publish_spares t ne)) (p.shard t l))
+      (IsShard-same z (head z ws t) (head z (set ws word (r.0 + 1)) t) (level z ws t) (level z (set ws word (r.0 + 1)) t) (rows_of z t log) (head_spared z ws t word (r.0 + 1) (publish_spares t ne)) (λ k le. level_spared z ws t k word (r.0 + 1) le (publish_spares t ne)) (p.shard t l))
 
   pub used_grows : (t : ℕ) → used (rows_of z t log) ≤ used (rows_of z t (log ++ r ∷ []))
   used_grows t = ⊎_elim
@@ -225,9 +249,9 @@ module _ (z : Layout) (ws : List ℕ) (log : List Row) (word : ℕ) (r : Row) (h
       let b = publish_high in
       let c = start_low z h in
       IsRow-set z ws log (log ++ r ∷ []) q word (r.0 + 1) (p.row q i)
-          (⊎_elim (λ e. let g : base z (shard_of z r.1) ≡ base z (shard_of z q.1) = ap (base z) e in inl (omega arith))
-              (λ ne. ⊎_elim (λ l. inl (omega arith)) (λ g. inr (omega arith)) (other_shard z s (shard_of z q.1) word ne (omega arith) (omega arith))) (cases_eq (shard_of z r.1) (shard_of z q.1)))
-          (used_grows (shard_of z q.1))
+      (⊎_elim (λ e. let g : base z (shard_of z r.1) ≡ base z (shard_of z q.1) = ap (base z) e in inl (omega arith))
+      (λ ne. ⊎_elim (λ l. inl (omega arith)) (λ g. inr (omega arith)) (other_shard z s (shard_of z q.1) word ne (omega arith) (omega arith))) (cases_eq (shard_of z r.1) (shard_of z q.1)))
+      (used_grows (shard_of z q.1))
 
   new_row : IsRow z (set ws word (r.0 + 1)) (log ++ r ∷ []) r
   new_row =
@@ -249,10 +273,16 @@ module _ (z : Layout) (ws : List ℕ) (log : List Row) (word : ℕ) (r : Row) (h
   one_place i j key a b = ⊎_elim (λ c. ⊎_elim (λ d. p.once i j key c d) (λ d. absurd (no_key i (subst (λ ws. In (i, ws) log) (ap (λ (q : Row). q.1) d) c))) (In-push (j, key) r log b))
       (λ c. ⊎_elim (λ d. absurd (no_key j (subst (λ ws. In (j, ws) log) (ap (λ (q : Row). q.1) c) d))) (λ d. ap (λ (q : Row). q.0) c ∙ sym (ap (λ (q : Row). q.0) d)) (In-push (j, key) r log b)) (In-push (i, key) r log a)
 
+  behind : (t : ℕ) → shard_of z r.1 ≡ t → r.0 ≡ base z t + start z + used (rows_of z t log)
+  behind t e = subst (λ u. r.0 ≡ base z u + start z + used (rows_of z u log)) e (let b = f.behind in omega arith)
+
   pub IsPool-publish : IsPool z (set ws word (r.0 + 1)) (log ++ r ∷ [])
   IsPool-publish = record {
     long = length-set ws word (r.0 + 1) ∙ p.long;
     shard = λ t l. ⊎_elim (λ e. subst (λ t. IsShard z (head z (set ws word (r.0 + 1)) t) (level z (set ws word (r.0 + 1)) t) (rows_of z t (log ++ r ∷ []))) e own_shard) (λ ne. other t l ne) (cases_eq (shard_of z r.1) t);
     row = λ q i. ⊎_elim (λ o. old_row q o) (λ e. subst (IsRow z (set ws word (r.0 + 1)) (log ++ r ∷ [])) (sym e) new_row) (In-push q r log i);
+    placed = λ t l. ⊎_elim
+        (λ e. subst (Laid (base z t + start z)) (sym (rows_of-push z t log r e)) (Laid-push (base z t + start z) (rows_of z t log) r (p.placed t l) (behind t e)))
+        (λ ne. subst (Laid (base z t + start z)) (sym (rows_of-other z t log r ne)) (p.placed t l)) (cases_eq (shard_of z r.1) t);
     once = one_place;
   }

@@ -1,21 +1,22 @@
 -- Each kind of step keeps the rule.
-use Rattle.std.proofs.Common.{◌≡◌, ◌≢◌, ◌⊎◌, inl, inr, ⊎_elim, ℕ, zero, suc, ◌+◌, ◌-◌, ◌*◌, ◌<◌, ◌≤◌, List, [], ◌∷◌, ◌++◌, length, get_or, set, refl, sym, ap, ◌∙◌, subst, arith, slice_index, slice_set}
+use Rattle.std.proofs.Common.{◌≡◌, ◌≢◌, ⊎_elim, ℕ, zero, suc, ◌+◌, ◌<◌, ◌≤◌, List, [], ◌∷◌, ◌++◌, length, set, refl, sym, ap, ◌∙◌, subst, arith, slice_index}
 use Rattle.std.proofs.lemmas.Bool.{cases_eq}
 use Rattle.std.proofs.lemmas.List.{set-get_or}
 use mathlib.Core.Option.{Option, some, none, some-injective, some-ne-none}
 use lib.ListN.{get_elem?}
-use Rattle.atomic_table.specs.Table.{State, Me, Step, step, Act, keeps, Allows, stepped}
+use Rattle.atomic_table.specs.Table.{State, Me, step, keeps, Allows, stepped}
 use Rattle.atomic_table.proofs.Lists.{at_set, set_else}
 use Rattle.pool_words.specs.declared.view.Layout.{Layout}
 use Rattle.pool_words.specs.declared.view.View.{View}
-use Rattle.pool_words.specs.Layout.{Row, window, used, shard_of, base, start, rows_of, head, IsLayout}
+use Rattle.pool_words.specs.Layout.{Row, window, used, shard_of, base, start, rows_of}
 use Rattle.pool_words.specs.Rule.{In, IsPool, Earlier, Same}
-use Rattle.pool_words.specs.Views.{Seats, Knows, IsShared, Holds, Moves, Shown, IsPrivate, IsFree, IsReady, loaded, stored, published}
+use Rattle.pool_words.specs.Views.{Seats, Knows, IsShared, Holds, Moves, Shown, IsPrivate, IsFree, IsReady, IsNext, IsFull, CanFill, CanMove, loaded, stored, published}
 use Rattle.pool_words.proofs.Windows.{one_row}
 use Rattle.pool_words.proofs.Members.{rows_of-other}
-use Rattle.pool_words.proofs.Places.{start_low, shard_in}
+use Rattle.pool_words.proofs.Places.{start_low, start_pos, shard_in}
 use Rattle.pool_words.proofs.Shards.{IsPool-private, IsPool-publish, publish_low, publish_high}
-use Rattle.pool_words.proofs.Orders.{Earlier-refl, Earlier-trans, Earlier-private, Earlier-publish, Same-refl, Same-trans, Same-other, Same-set, Same-push, IsFree-same}
+use Rattle.pool_words.proofs.Orders.{Earlier-refl, Earlier-trans, Earlier-private, Earlier-publish, Same-refl, Same-trans, Same-other, Same-set, Same-push, IsFree-same, IsNext-same, IsFull-same}
+use Rattle.pool_words.proofs.Growing.{fill_low, fill_high, IsPool-fill, Earlier-fill, IsPool-move, Earlier-move}
 
 set_there : {A : Type 0} (l : List A) (i : ℕ) (a b : A) → get_elem? l i ≡ some b → get_elem? (set l i a) i ≡ some a
 set_there [] i a b e = absurd (some-ne-none b (sym e))
@@ -31,8 +32,8 @@ module _ (z : Layout) (views : Seats) (id : ℕ) (v w : View) (h : IsShared z vi
   is_owned : (s : ℕ) → (j : ℕ) (u : View) → get_elem? views j ≡ some u → In s u.writes → (k : ℕ) × (x : View) × (get_elem? (set views id w) k ≡ some x) × In s x.writes
   is_owned s j u g i = ⊎_elim
       (λ e.
-          let f : v ≡ u = some-injective v u (sym at ∙ subst (λ n. get_elem? views n ≡ some u) e g) in
-          (id, w, set_there views id w v at, subst (In s) (ap (λ (y : View). y.writes) (sym f) ∙ sym same) i))
+      let f : v ≡ u = some-injective v u (sym at ∙ subst (λ n. get_elem? views n ≡ some u) e g) in
+      (id, w, set_there views id w v at, subst (In s) (ap (λ (y : View). y.writes) (sym f) ∙ sym same) i))
       (λ ne. (j, u, set_else views id j w ne ∙ g, i))
       (cases_eq j id)
 
@@ -101,7 +102,7 @@ module _ {S : Type 0} (st : State S View) (id : ℕ) (v : View) (h : Holds v.lay
     store_holds =
         let w = with_pool v (set st.words i x) h.log in
         Holds-step v.layout st id v w (set st.words i x) h.log homes h at refl store_pool store_earlier
-            (λ t n. Same-other v.layout pr.shard t i x st.words h.log (λ e. n (subst (λ s. In s v.writes) e pr.ours)) low pr.inside) (knows_all v.layout w refl store_pool)
+        (λ t n. Same-other v.layout pr.shard t i x st.words h.log (λ e. n (subst (λ s. In s v.writes) e pr.ours)) low pr.inside) (knows_all v.layout w refl store_pool)
 
     store_moves : Moves v (set v.words i x) v.log (with_pool v (set st.words i x) h.log)
     store_moves =
@@ -161,6 +162,29 @@ module _ {S : Type 0} (st : State S View) (id : ℕ) (v : View) (h : Holds v.lay
           owns = λ s o. Same-push v.layout s (set v.words word (r.0 + 1)) v.log (set st.words word (r.0 + 1)) h.log r (Same-set v.layout (shard_of v.layout r.1) s word (r.0 + 1) v.words v.log st.words h.log (omega arith) to (k.owns s o));
         }
 
+module _ {S : Type 0} (st : State S View) (id : ℕ) (v : View) (h : Holds v.layout st) (at : get_elem? st.views id ≡ some v) (homes : List (Option S)) (s word x : ℕ) (ours : In s v.writes) (from : base v.layout s ≤ word) (to : word < base v.layout s + start v.layout)
+    (pool : IsPool v.layout (set st.words word x) h.log) (earlier : Earlier v.layout st.words h.log (set st.words word x) h.log) where
+  within : word < base v.layout s + v.layout.size
+  within = let a = start_low v.layout h.laid in omega arith
+
+  level_holds : Holds v.layout record { words = set st.words word x; homes = homes; views = set st.views id (with_pool v (set st.words word x) h.log) }
+  level_holds =
+      let w = with_pool v (set st.words word x) h.log in
+      Holds-step v.layout st id v w (set st.words word x) h.log homes h at refl pool earlier
+      (λ t n. Same-other v.layout s t word x st.words h.log (λ e. n (subst (λ s. In s v.writes) e ours)) from within) (knows_all v.layout w refl pool)
+
+  level_moves : Moves v (set v.words word x) v.log (with_pool v (set st.words word x) h.log)
+  level_moves =
+      let k = h.known id v at in
+      record {
+        layout = refl;
+        writes = refl;
+        laid = h.laid;
+        pool = pool;
+        later = Earlier-trans v.layout v.words v.log st.words h.log (set st.words word x) h.log k.earlier earlier;
+        owns = λ t o. Same-set v.layout s t word x v.words v.log st.words h.log from within (k.owns t o);
+      }
+
 one_pair : (r q : Row) → r.0 ≡ q.0 → r.1 ≡ q.1 → r ≡ q
 one_pair r q a b = λ i. (a i, b i)
 
@@ -179,8 +203,7 @@ module _ {S : Type 0} (z : Layout) (slots id : ℕ) (me : Me S View) where
   load_allowed i st h homes at small =
       let o = own_layout st h at in
       let w = with_pool me.0 st.words o.1.log in
-      let same : set st.words i (slice_index st.words i) ≡ st.words = set-get_or st.words i 0 in
-      (
+      let same : set st.words i (slice_index st.words i) ≡ st.words = set-get_or st.words i 0 in (
         w,
         keeps,
         tt,
@@ -191,8 +214,7 @@ module _ {S : Type 0} (z : Layout) (slots id : ℕ) (me : Me S View) where
   pub store_allowed : (i x : ℕ) → IsPrivate me.0 i → Allows (Holds z) slots id me i (λ _. x) (λ _. stored (step slots i x 0 none) me x)
   store_allowed i x pr st h homes at small =
       let o = own_layout st h at in
-      let w = with_pool me.0 (set st.words i x) o.1.log in
-      (
+      let w = with_pool me.0 (set st.words i x) o.1.log in (
         w,
         keeps,
         tt,
@@ -200,12 +222,49 @@ module _ {S : Type 0} (z : Layout) (slots id : ℕ) (me : Me S View) where
         (store_moves st id me.0 o.1 at st.homes i x pr, refl),
       )
 
+  level_allowed : (s i x : ℕ) → In s me.0.writes → ((st : State S View) (h : Holds me.0.layout st) → get_elem? st.views id ≡ some me.0
+      → (base me.0.layout s ≤ i) × (i < base me.0.layout s + start me.0.layout) × IsPool me.0.layout (set st.words i x) h.log × Earlier me.0.layout st.words h.log (set st.words i x) h.log)
+      → Allows (Holds z) slots id me i (λ _. x) (λ _. stored (step slots i x 0 none) me x)
+  level_allowed s i x ours good st h homes at small =
+      let o = own_layout st h at in
+      let g = good st o.1 at in
+      let w = with_pool me.0 (set st.words i x) o.1.log in (
+        w,
+        keeps,
+        tt,
+        subst (λ y. Holds y (stepped st i x id me.1 w keeps)) o.0 (level_holds st id me.0 o.1 at st.homes s i x ours g.0 g.1 g.2 g.3),
+        (level_moves st id me.0 o.1 at st.homes s i x ours g.0 g.1 g.2 g.3, refl),
+      )
+
+  fill_row : (i : ℕ) (s n h : ℕ) (r : Row) → In s me.0.writes → IsNext me.0.layout me.0.words me.0.log s h n i r → Allows (Holds z) slots id me i (λ _. r.0 + 1) (λ _. stored (step slots i (r.0 + 1) 0 none) me (r.0 + 1))
+  fill_row i s n h r ours f = level_allowed s i (r.0 + 1) ours (λ st hs at.
+      let lt = hs.shared.in_range id me.0 s at ours in
+      let k = hs.known id me.0 at in
+      let g = IsNext-same me.0.layout me.0.words me.0.log st.words hs.log s h n i r hs.laid (k.owns s ours) f in
+      let a = fill_low me.0.layout st.words hs.log s h n i r hs.laid hs.pool lt g in
+      (omega arith, fill_high me.0.layout st.words hs.log s h n i r hs.laid hs.pool lt g, IsPool-fill me.0.layout st.words hs.log s h n i r hs.laid hs.pool lt g, Earlier-fill me.0.layout st.words hs.log s h n i r hs.laid hs.pool lt g))
+
+  pub fill_allowed : (i x : ℕ) → CanFill me.0 i x → Allows (Holds z) slots id me i (λ _. x) (λ _. stored (step slots i x 0 none) me x)
+  fill_allowed i x f = subst (λ y. Allows (Holds z) slots id me i (λ _. y) (λ _. stored (step slots i y 0 none) me y)) (sym f.is) (fill_row i f.shard f.done f.head_is f.row f.ours f.next)
+
+  move_row : (s h : ℕ) → In s me.0.writes → IsFull me.0.layout me.0.words me.0.log s h
+      → Allows (Holds z) slots id me (base me.0.layout s) (λ _. suc h) (λ _. stored (step slots (base me.0.layout s) (suc h) 0 none) me (suc h))
+  move_row s h ours f = level_allowed s (base me.0.layout s) (suc h) ours (λ st hs at.
+      let lt = hs.shared.in_range id me.0 s at ours in
+      let k = hs.known id me.0 at in
+      let g = IsFull-same me.0.layout me.0.words me.0.log st.words hs.log s h hs.laid (k.owns s ours) f in
+      let a = start_pos me.0.layout in
+      (omega arith, omega arith, IsPool-move me.0.layout st.words hs.log s h hs.laid hs.pool lt g, Earlier-move me.0.layout st.words hs.log s h hs.laid hs.pool lt g))
+
+  pub move_allowed : (i x : ℕ) → CanMove me.0 i x → Allows (Holds z) slots id me i (λ _. x) (λ _. stored (step slots i x 0 none) me x)
+  move_allowed i x f = subst (λ y. Allows (Holds z) slots id me i (λ _. y) (λ _. stored (step slots i y 0 none) me y)) (sym f.is)
+      (subst (λ y. Allows (Holds z) slots id me y (λ _. suc f.head_is) (λ _. stored (step slots y (suc f.head_is) 0 none) me (suc f.head_is))) (sym f.at) (move_row f.shard f.head_is f.ours f.full))
+
   publish_row : (i : ℕ) (r : Row) → IsReady me.0 i r → Allows (Holds z) slots id me i (λ _. r.0 + 1) (λ _. published (step slots i (r.0 + 1) 0 none) me (r.0 + 1))
   publish_row i r rd st h homes at small =
       let o = own_layout st h at in
       let w = with_pool me.0 (set st.words i (r.0 + 1)) (o.1.log ++ r ∷ []) in
-      let m = publish_moves st id me.0 o.1 at st.homes i r rd in
-      (
+      let m = publish_moves st id me.0 o.1 at st.homes i r rd in (
         w,
         keeps,
         tt,

@@ -1,7 +1,7 @@
 -- How the words of a pool are laid out, and where the row of a key belongs.
 -- Each shard has `size` words: its head, the levels 0 to `top` of slots one behind the other, and then rows.
 -- A row is a word with the key's length, and the key. A slot is 0, or a row's place plus 1.
-use Rattle.std.specs.Prelude.{◌≡◌, ℕ, ◌+◌, ◌-◌, ◌*◌, ◌/◌, ◌%◌, ◌^◌, ◌<◌, ◌≤◌, ◌==◌, Bool, List, [], ◌∷◌, length, take, drop, bit_xor, slice_index}
+use Rattle.std.specs.Prelude.{ℕ, ◌+◌, ◌-◌, ◌*◌, ◌/◌, ◌%◌, ◌^◌, ◌<◌, ◌≤◌, ◌==◌, List, [], ◌∷◌, length, take, drop, bit_xor, slice_index}
 use Rattle.std.specs.List.{filter, sum_by}
 use Rattle.pool_words.specs.declared.view.Layout.{Layout}
 

@@ -1,7 +1,7 @@
 -- The rule of the pool's words: what holds of them and of the published rows, the log, between any two steps.
-use Rattle.std.specs.Prelude.{◌≡◌, ◌≢◌, ℕ, zero, suc, ◌+◌, ◌*◌, ◌<◌, ◌≤◌, ◌⊎◌, List, [], ◌∷◌, ◌++◌, length, take, slice_index}
+use Rattle.std.specs.Prelude.{◌≡◌, ◌≢◌, ℕ, zero, suc, ◌+◌, ◌<◌, ◌≤◌, ◌⊎◌, List, [], ◌∷◌, ◌++◌, length, take, slice_index}
 use Rattle.pool_words.specs.declared.view.Layout.{Layout}
-use Rattle.pool_words.specs.Layout.{Row, window, width, half, level_at, spot, used, shard_of, base, start, rows_of, head, level, IsLayout}
+use Rattle.pool_words.specs.Layout.{Row, window, width, half, spot, used, shard_of, base, start, rows_of, head, level}
 
 -- it stands in the list
 abbrev pub In : {X : Type 0} → X → List X → Type 0
@@ -49,11 +49,17 @@ pub record IsRow (z : Layout) (ws : List ℕ) (log : List Row) (r : Row) : Type 
   pub ends : r.0 + length r.1 < base z (shard_of z r.1) + (start z + used (rows_of z (shard_of z r.1) log))
   pub whole : window ws r.0 (suc (length r.1)) ≡ length r.1 ∷ r.1
 
+-- rows one behind the other, from a place on
+abbrev pub Laid : ℕ → List Row → Type 0
+Laid place [] = Unit {0}
+Laid place (r ∷ rows) = (r.0 ≡ place) × Laid (place + (length r.1 + 1)) rows
+
 -- the words and the log of a pool. Two rows have different keys
 pub record IsPool (z : Layout) (ws : List ℕ) (log : List Row) : Type 0 where
   pub long : length ws ≡ z.words
   pub shard : (s : ℕ) → s < z.shards → IsShard z (head z ws s) (level z ws s) (rows_of z s log)
   pub row : (r : Row) → In r log → IsRow z ws log r
+  pub placed : (s : ℕ) → s < z.shards → Laid (base z s + start z) (rows_of z s log)
   pub once : (i j : ℕ) (key : List ℕ) → In (i, key) log → In (j, key) log → i ≡ j
 
 -- the log goes on

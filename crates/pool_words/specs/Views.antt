@@ -1,12 +1,12 @@
 -- What a seat knows: the pool as it was at its last step. A seat that has the writer's part of a shard knows that shard as it is.
-use Rattle.std.specs.Prelude.{◌≡◌, ◌≢◌, ℕ, zero, suc, ◌+◌, ◌*◌, ◌<◌, ◌≤◌, List, [], ◌∷◌, ◌++◌, length, replicate, slice_index, slice_set}
+use Rattle.std.specs.Prelude.{◌≡◌, ◌≢◌, ℕ, zero, suc, ◌+◌, ◌<◌, ◌≤◌, List, [], ◌∷◌, ◌++◌, length, take, replicate, slice_index, slice_set}
 use mathlib.Core.Option.{some}
 use lib.ListN.{get_elem?}
 use Rattle.atomic_table.specs.Table.{State, Me, Step}
 use Rattle.pool_words.specs.declared.view.Layout.{Layout}
 use Rattle.pool_words.specs.declared.view.View.{View}
 use Rattle.pool_words.specs.Layout.{Row, window, width, half, level_at, spot, used, shard_of, base, start, rows_of, head, level, IsLayout}
-use Rattle.pool_words.specs.Rule.{In, IsPool, Earlier, Same}
+use Rattle.pool_words.specs.Rule.{In, HasRows, IsPool, Earlier, Same}
 
 -- the numbers below n
 abbrev pub below : ℕ → List ℕ
@@ -81,11 +81,50 @@ pub record IsReady (v : View) (word : ℕ) (r : Row) : Type 0 where
   pub ours : In (shard_of v.layout r.1) v.writes
   pub free : IsFree v.layout v.words v.log word r
 
+-- The first n rows of the shard stand in the level after the live one, h, and the word is the first slot of that level that is 0 in the next row's circle
+pub record IsNext (z : Layout) (ws : List ℕ) (log : List Row) (s h n word : ℕ) (r : Row) : Type 0 where
+  pub live : head z ws s ≡ h
+  pub below_top : h < z.top
+  pub filled : HasRows (level z ws s (suc h)) (suc h) (take n (rows_of z s log))
+  pub left : n < length (rows_of z s log)
+  pub next : take (suc n) (rows_of z s log) ≡ take n (rows_of z s log) ++ r ∷ []
+  pub far : ℕ
+  pub within : far < width (suc h)
+  pub slot : word ≡ base z s + (level_at (suc h) + spot r.1 (suc h) far)
+  pub free : slice_index (level z ws s (suc h)) (spot r.1 (suc h) far) ≡ 0
+  pub run : (d : ℕ) → d < far → slice_index (level z ws s (suc h)) (spot r.1 (suc h) d) ≢ 0
+
+-- the seat can fill the word with this number, by which one more row of a shard of its own stands in the level after the live one
+pub record CanFill (v : View) (word value : ℕ) : Type 0 where
+  pub shard : ℕ
+  pub ours : In shard v.writes
+  pub head_is : ℕ
+  pub done : ℕ
+  pub row : Row
+  pub next : IsNext v.layout v.words v.log shard head_is done word row
+  pub is : value ≡ row.0 + 1
+
+-- every row of the shard stands in the level after the live one, h, of whose slots they take half
+pub record IsFull (z : Layout) (ws : List ℕ) (log : List Row) (s h : ℕ) : Type 0 where
+  pub live : head z ws s ≡ h
+  pub below_top : h < z.top
+  pub filled : HasRows (level z ws s (suc h)) (suc h) (rows_of z s log)
+  pub many : half h ≤ length (rows_of z s log)
+
+-- the seat can move the head, which is the word, of a shard of its own to this level
+pub record CanMove (v : View) (word value : ℕ) : Type 0 where
+  pub shard : ℕ
+  pub ours : In shard v.writes
+  pub head_is : ℕ
+  pub full : IsFull v.layout v.words v.log shard head_is
+  pub at : word ≡ base v.layout shard
+  pub is : value ≡ suc head_is
+
 -- a load tells the word of the pool that it shows
 abbrev pub loaded : {S : Type 0} → Step S → Me S View → ℕ → Me S View → Type 0
 loaded st m n m' = Shown m.0 m'.0 × (n ≡ slice_index m'.0.words st.word) × (m'.1 ≡ m.1)
 
--- a store of a private word
+-- a store of a word of the seat's own shards, by which no row becomes known
 abbrev pub stored : {S : Type 0} → Step S → Me S View → ℕ → Me S View → Type 0
 stored st m n m' = Moves m.0 (slice_set m.0.words st.word st.first) m.0.log m'.0 × (m'.1 ≡ m.1)
 

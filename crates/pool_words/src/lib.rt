@@ -11,5 +11,5 @@
 mod steps;
 mod view;
 
-pub use steps::{load, open, publish, store_private};
+pub use steps::{fill, load, move_head, open, publish, store_private};
 pub use view::{Layout, PoolRule, View, WordSeat, Words};
