@@ -2,7 +2,7 @@
 use Rattle.std.proofs.Common.{◌≡◌, ◌⊎◌, inl, inr, ⊎_elim, ℕ, suc, ◌+◌, ◌-◌, ◌*◌, ◌/◌, ◌%◌, ◌^◌, ◌<◌, ◌≤◌, List, refl, ap, ◌∙◌, arith, mul-le-mul_right, suc-mul}
 use Rattle.std.proofs.lemmas.Bool.{cases_lt, cases_order}
 use Rattle.std.proofs.lemmas.Nat.{pow_pos, mod-mul-add}
-use Rattle.std.proofs.Math.Nat.{pow-suc, pow-le-pow_right, mod-lt, mod-add-div', mod-add-mod}
+use Rattle.std.proofs.Math.Nat.{pow-suc, pow-le-pow_right, mod-lt, mod-eq_of_lt, mod-add-div', mod-add-mod}
 use Rattle.pool_words.specs.declared.view.Layout.{Layout}
 use Rattle.pool_words.specs.Layout.{width, half, level_at, spot, hash_of, base, start, shard_of, IsLayout}
 
@@ -129,3 +129,31 @@ spot_reaches ws k j h =
     let e = mod-add-div' F W in
     let l : F % W < W = mod-lt F (omega arith) in
     turned F W j (F / W) (F % W) (let a : ℕ = F % W in let b : ℕ = F / W * W in let e' : a + b ≡ F = e in let g : F ≡ b + a = omega arith in g) l h
+
+pub size_low : (z : Layout) → IsLayout z → z.size ≤ z.words
+size_low z h = let b = base_in z 0 h h.some in omega arith
+
+-- the numbers of a level fit a word
+pub width_low : (z : Layout) (k : ℕ) → IsLayout z → k ≤ z.top → width k < 2 ^ 60
+width_low z k h le = let e = level_ends z k le in let s = start_low z h in let w = size_low z h in let m = h.small in omega arith
+
+pub level_low : (z : Layout) (k : ℕ) → IsLayout z → k ≤ z.top → k < 64
+unfolding width
+level_low z k h le = ⊎_elim (λ l. l) over (cases_lt k 64)
+  where
+    over : 64 ≤ k → k < 64
+    over g =
+        let a : 2 ^ 64 ≤ 2 ^ k = pow-le-pow_right {n = 2} (omega arith) g in
+        let b : 64 * 2 ^ k < 2 ^ 60 = width_low z k h le in
+        let q : ℕ = 2 ^ k in
+        let a' : 2 ^ 64 ≤ q = a in
+        let b' : 64 * q < 2 ^ 60 = b in
+        absurd (omega arith)
+
+pub width_shift : (z : Layout) (k : ℕ) → IsLayout z → k ≤ z.top → 64 * 2 ^ k % 2 ^ 64 ≡ width k
+unfolding width
+width_shift z k h le = let b : 64 * 2 ^ k < 2 ^ 60 = width_low z k h le in let q : ℕ = 64 * 2 ^ k in let b' : q < 2 ^ 60 = b in mod-eq_of_lt (omega arith)
+
+pub level_from : (k : ℕ) → level_at k ≡ width k - 63
+unfolding level_at width
+level_from k = refl

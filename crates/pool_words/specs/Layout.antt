@@ -70,6 +70,7 @@ level z ws s k = window ws (base z s + level_at k) (width k)
 pub record IsLayout (z : Layout) : Type 0 where
   pub some : 0 < z.shards
   pub fits : z.shards * z.size ≤ z.words
+  pub small : z.words < 2 ^ 60
   pub large : 1024 ≤ z.size
   pub quarter : level_at (z.top + 1) ≤ z.size / 4
   pub most : z.size / 4 < level_at (z.top + 2)
