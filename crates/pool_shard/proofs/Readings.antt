@@ -1,5 +1,5 @@
 -- What the words of a row and of a level tell.
-use Rattle.std.proofs.Common.{◌≡◌, ◌≢◌, ◌⊎◌, inl, inr, ⊎_elim, ℕ, zero, suc, ◌+◌, ◌-◌, ◌*◌, ◌/◌, ◌%◌, ◌^◌, ◌<◌, ◌≤◌, List, [], ◌∷◌, length, get_or, take, refl, sym, ap, ◌∙◌, subst, arith, slice_index}
+use Rattle.std.proofs.Common.{◌≡◌, ◌≢◌, ◌⊎◌, inl, inr, ⊎_elim, ℕ, zero, suc, ◌+◌, ◌-◌, ◌*◌, ◌/◌, ◌%◌, ◌^◌, ◌<◌, ◌≤◌, List, [], ◌∷◌, ◌++◌, length, get_or, take, refl, sym, ap, ◌∙◌, subst, arith, slice_index}
 use Rattle.std.proofs.lemmas.Bool.{cases_lt, cases_order}
 use Rattle.std.proofs.lemmas.List.{length-take}
 use Rattle.std.specs.Bool.{MatchBool}
@@ -7,9 +7,9 @@ use Rattle.std.proofs.lemmas.List.{ext_get_or}
 use Rattle.pool_words.specs.declared.view.Layout.{Layout}
 use Rattle.pool_words.specs.declared.view.View.{View}
 use Rattle.pool_words.specs.Layout.{Row, window, width, half, level_at, spot, hash_of, used, shard_of, base, start, rows_of, head, level, IsLayout}
-use Rattle.pool_words.specs.Rule.{In, Stands, HasRows, taken, IsRow, IsPool, Earlier}
+use Rattle.pool_words.specs.Rule.{In, Stands, HasRows, taken, IsRow, Laid, IsPool, Earlier}
 use Rattle.pool_words.proofs.Windows.{window_length, window_index, one_row}
-use Rattle.pool_words.proofs.Members.{In-extends, In-take, rows_of-In}
+use Rattle.pool_words.proofs.Members.{In-extends, In-take, rows_of-In, used-cons, used-nil}
 use Rattle.pool_words.proofs.Places.{width_pos, halves, level_ends, level_pos, start_low, spot_in, shard_in, base_in, width_low, level_from}
 use Rattle.std.proofs.Math.Nat.{mod-lt, div-lt_iff_lt-mul}
 use Rattle.pool_words.proofs.Levels.{circle_full}
@@ -31,6 +31,13 @@ word_read z ws log r j p i l =
     let w = (p.row r i).whole in
     let e : r.0 + suc j ≡ r.0 + 1 + j = omega arith in
     sym (subst (λ n. slice_index (window ws r.0 (suc (length r.1))) (suc j) ≡ slice_index ws n) e (window_index ws r.0 (suc (length r.1)) (suc j) (omega arith))) ∙ ap (λ us. slice_index us (suc j)) w
+
+-- what a look at a known row's first word tells
+pub row_facts : (z : Layout) (ws : List ℕ) (log old : List Row) (place n : ℕ) (key : List ℕ) → IsLayout z → IsPool z ws log → ((r : Row) → In r old → In r log) → In (place, key) old → n ≡ slice_index ws place
+    → (n ≡ length key) × (place + length key < z.words) × (length key ≤ 64)
+row_facts z ws log old place n key h p still i e =
+    let j = still (place, key) i in
+    (e ∙ count_read z ws log (place, key) p j, place_in z ws log (place, key) h p j, (p.row (place, key) j).few)
 
 -- a place has one key
 pub one_key : (z : Layout) (ws : List ℕ) (log : List Row) (i : ℕ) (a b : List ℕ) → IsPool z ws log → In (i, a) log → In (i, b) log → a ≡ b
@@ -92,13 +99,13 @@ pub absent : (z : Layout) (ws : List ℕ) (log old : List Row) (s k : ℕ) (key 
 absent z ws log old s k key far p passed free still stands i o =
     let t = stands (i, key) o refl in
     ⊎_elim (λ e. absurd_zero _ i (subst (λ d. slice_index (level z ws s k) (spot key k d) ≡ i + 1) e t.here) free)
-        (λ q. ⊎_elim
-            (λ l.
-                let f = passed t.far l in
-                let g : f.row.0 ≡ i = let a = f.here in let b = t.here in omega arith in
-                f.differs (one_key z ws log i f.row.1 key p (subst (λ n. In (n, f.row.1) log) g f.there) (still (i, key) o)))
-            (λ g. t.run far g free) q)
-        (cases_order t.far far)
+    (λ q. ⊎_elim
+    (λ l.
+    let f = passed t.far l in
+    let g : f.row.0 ≡ i = let a = f.here in let b = t.here in omega arith in
+    f.differs (one_key z ws log i f.row.1 key p (subst (λ n. In (n, f.row.1) log) g f.there) (still (i, key) o)))
+    (λ g. t.run far g free) q)
+    (cases_order t.far far)
 
 -- where a slot lies, by the numbers that the code adds
 pub slot_sum : (z : Layout) (k hash far : ℕ) (slots : ℕ) → IsLayout z → k ≤ z.top → slots ≡ width k → far < slots → hash < 2 ^ 64
@@ -131,3 +138,20 @@ unfolding base shard_of spot
 slot_is z k hash far slots key e f =
     let v : slots - 63 ≡ level_at k = ap (λ n. n - 63) e ∙ sym (level_from k) in
     ap (λ h. h % z.shards * z.size + (slots - 63 + (h / 256 + far) % slots)) f ∙ ap (λ n. hash_of key % z.shards * z.size + (n - 63 + (hash_of key / 256 + far) % n)) e ∙ ap (λ n. hash_of key % z.shards * z.size + (n + (hash_of key / 256 + far) % width k)) (sym (level_from k))
+
+-- the slot at which a look was, as a slot of its level
+pub spot_read : (z : Layout) (v : View) (at far slot value : ℕ) (key : List ℕ) → IsLayout z → IsPool z v.words v.log → at ≤ z.top → slot ≡ base z (shard_of z key) + (level_at at + spot key at far) → value ≡ slice_index v.words slot
+    → slice_index (level z v.words (shard_of z key) at) (spot key at far) ≡ value
+spot_read z v at far slot value key h p le e f = slot_read z v.words v.log (shard_of z key) at h p (shard_in z key h) le key far ∙ sym (f ∙ ap (slice_index v.words) e)
+
+-- rows one behind the other, and the next one
+pub next_row : (place n : ℕ) (rows : List Row) → Laid place rows → n < length rows → (r : Row) × (take (suc n) rows ≡ take n rows ++ r ∷ []) × (r.0 ≡ place + used (take n rows)) × (used (take (suc n) rows) ≡ used (take n rows) + (length r.1 + 1)) × In r rows
+next_row place n [] h l = absurd (omega arith)
+next_row place zero (r ∷ rows) h l = let u = used-nil in let v = used-cons r [] in (r, refl, (let a = h.0 in omega arith), omega arith, inl refl)
+next_row place (suc n) (q ∷ rows) h l =
+    let g = next_row (place + (length q.1 + 1)) n rows h.1 (omega arith) in
+    let u = used-cons q (take n rows) in
+    let v = used-cons q (take (suc n) rows) in
+    let a = g.2 in
+    let b = g.3 in
+    (g.0, ap (λ (l : List Row). q ∷ l) g.1, omega arith, omega arith, inr g.4)

@@ -6,8 +6,10 @@
 //! The crate stands on `pool_words` and `type_form`.
 #![tactic(auto)]
 
+mod find;
 mod hash;
 mod look;
 mod probe;
+mod write;
 
 pub use hash::hash_key;

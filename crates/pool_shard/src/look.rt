@@ -12,6 +12,7 @@ pub(crate) fn look(words: &Words, layout: &Layout, seat: &mut WordSeat, word: us
     requires inside { word < layout.now.words }
     ensures seat { IsSeat layout.now words.now.shared.table_id seat.new }
     ensures keeps { Keeps seat.old.me.0 seat.new.me.0 }
+    ensures slots { seat.new.me.1 ≡ seat.old.me.1 }
     ensures found { result ≡ slice_index seat.new.me.0.words word }
 {
     load(words, seat, word)
@@ -51,6 +52,7 @@ pub(crate) fn row_is(
     requires row { (ws : List ℕ) × In (place, ws) seat.old.me.0.log }
     ensures seat { IsSeat layout.now words.now.shared.table_id seat.new }
     ensures keeps { Keeps seat.old.me.0 seat.new.me.0 }
+    ensures slots { seat.new.me.1 ≡ seat.old.me.1 }
     ensures answer { (ws : List ℕ) → In (place, ws) seat.old.me.0.log → MatchBool result (ws ≡ key.now) (ws ≡ key.now → ⊥) }
 {
     let count = look(words, layout, seat, place);

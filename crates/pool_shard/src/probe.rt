@@ -21,6 +21,7 @@ pub(crate) fn probe(
     requires head { head layout.now seat.old.me.0.words (shard_of layout.now key.now) ≡ at }
     ensures seat { IsSeat layout.now words.now.shared.table_id seat.new }
     ensures keeps { Keeps seat.old.me.0 seat.new.me.0 }
+    ensures slots { seat.new.me.1 ≡ seat.old.me.1 }
     ensures found { IfOk result (λ i. In (i, key.now) seat.new.me.0.log) }
     ensures absent { IfErr result (λ far. HasNot seat.old.me.0.log key.now) }
     ensures free { IfErr result (λ far. IsSpot (level layout.now seat.new.me.0.words (shard_of layout.now key.now) at) at key.now far) }

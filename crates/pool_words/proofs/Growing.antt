@@ -93,14 +93,14 @@ module _ (z : Layout) (ws : List ℕ) (log : List Row) (s h n word : ℕ) (r : R
   pub fill_level : level z (set ws word (r.0 + 1)) s (suc h) ≡ set (level z ws s (suc h)) (spot r.1 (suc h) f.far) (r.0 + 1)
   fill_level = window_at ws (base z s + level_at (suc h)) (width (suc h)) word (spot r.1 (suc h) f.far) (r.0 + 1) (let e = f.slot in omega arith) (spot_in r.1 (suc h) f.far)
 
-  fill_else : (k : ℕ) → k ≤ z.top → (k ≡ suc h → ⊥) → level z (set ws word (r.0 + 1)) s k ≡ level z ws s k
+  pub fill_else : (k : ℕ) → k ≤ z.top → (k ≡ suc h → ⊥) → level z (set ws word (r.0 + 1)) s k ≡ level z ws s k
   fill_else k le ne =
       let e = f.slot in
       let q = spot_in r.1 (suc h) f.far in
       window_out ws (base z s + level_at k) (width k) word (r.0 + 1)
       (⊎_elim (λ c. absurd (ne c)) (λ o. ⊎_elim (λ m. let a = level_apart k (suc h) m in inr (omega arith)) (λ g. let a = level_apart (suc h) k g in inl (omega arith)) o) (cases_order k (suc h)))
 
-  next_long : length (level z ws s (suc h)) ≡ width (suc h)
+  pub next_long : length (level z ws s (suc h)) ≡ width (suc h)
   next_long =
       let t = f.below_top in
       let o = level_ends z (suc h) (omega arith) in
@@ -117,7 +117,7 @@ module _ (z : Layout) (ws : List ℕ) (log : List Row) (s h n word : ℕ) (r : R
       (subst (λ m. IsShard z m (level z (set ws word (r.0 + 1)) s) (rows_of z s log)) (sym (fill_head ∙ f.live))
       (IsShard-fill z h (level z ws s) (level z (set ws word (r.0 + 1)) s) (rows_of z s log) n r f.far own f.below_top f.filled f.left f.next next_long f.within f.free f.run fill_level fill_else))
 
-  heads_stay : (t : ℕ) → head z (set ws word (r.0 + 1)) t ≡ head z ws t
+  pub heads_stay : (t : ℕ) → head z (set ws word (r.0 + 1)) t ≡ head z ws t
   heads_stay t =
       let a = fill_low in
       let b = fill_high in
@@ -148,7 +148,7 @@ module _ (z : Layout) (ws : List ℕ) (log : List Row) (s h : ℕ) (l : IsLayout
   move_high : base z s < base z s + start z
   move_high = let a = start_pos z in omega arith
 
-  moved : head z (set ws (base z s) (suc h)) s ≡ suc h
+  pub moved : head z (set ws (base z s) (suc h)) s ≡ suc h
   moved = let a = base_in z s l in_range in let m = p.long in let c = l.large in get_or-set_same ws (base z s) (suc h) 0 (omega arith)
 
   move_level : (k : ℕ) → k ≤ z.top → level z (set ws (base z s) (suc h)) s k ≡ level z ws s k
@@ -160,10 +160,10 @@ module _ (z : Layout) (ws : List ℕ) (log : List Row) (s h : ℕ) (l : IsLayout
       IsPool-levels z ws log s (base z s) (suc h) l p in_range (omega arith) move_high
       (IsShard-same z (suc h) (head z (set ws (base z s) (suc h)) s) (level z ws s) (level z (set ws (base z s) (suc h)) s) (rows_of z s log) moved move_level (IsShard-move z h (level z ws s) (rows_of z s log) own f.below_top f.filled f.many))
 
-  head_else : (t : ℕ) → (s ≡ t → ⊥) → head z (set ws (base z s) (suc h)) t ≡ head z ws t
+  pub head_else : (t : ℕ) → (s ≡ t → ⊥) → head z (set ws (base z s) (suc h)) t ≡ head z ws t
   head_else t ne = head_spared z ws t (base z s) (suc h) (levels_spare z ws log s (base z s) (suc h) l p in_range (omega arith) move_high t ne)
 
-  levels_all : (t k : ℕ) → k ≤ z.top → level z (set ws (base z s) (suc h)) t k ≡ level z ws t k
+  pub levels_all : (t k : ℕ) → k ≤ z.top → level z (set ws (base z s) (suc h)) t k ≡ level z ws t k
   levels_all t k le = ⊎_elim (λ e. subst (λ u. level z (set ws (base z s) (suc h)) u k ≡ level z ws u k) e (move_level k le))
       (λ ne. level_spared z ws t k (base z s) (suc h) le (levels_spare z ws log s (base z s) (suc h) l p in_range (omega arith) move_high t ne)) (cases_eq s t)
 

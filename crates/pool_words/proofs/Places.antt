@@ -1,5 +1,5 @@
 -- Where shards and levels lie.
-use Rattle.std.proofs.Common.{◌≡◌, ◌⊎◌, inl, inr, ⊎_elim, ℕ, suc, ◌+◌, ◌-◌, ◌*◌, ◌/◌, ◌%◌, ◌^◌, ◌<◌, ◌≤◌, List, refl, ap, ◌∙◌, arith, mul-le-mul_right, suc-mul}
+use Rattle.std.proofs.Common.{◌≡◌, ◌⊎◌, inl, inr, ⊎_elim, ℕ, suc, ◌+◌, ◌-◌, ◌*◌, ◌/◌, ◌%◌, ◌^◌, ◌<◌, ◌≤◌, List, refl, ap, ◌∙◌, arith, mul-le-mul_right, suc-mul, add-one}
 use Rattle.std.proofs.lemmas.Bool.{cases_lt, cases_order}
 use Rattle.std.proofs.lemmas.Nat.{pow_pos, mod-mul-add}
 use Rattle.std.proofs.Math.Nat.{pow-suc, pow-le-pow_right, mod-lt, mod-eq_of_lt, mod-add-div', mod-add-mod}
@@ -157,3 +157,11 @@ width_shift z k h le = let b : 64 * 2 ^ k < 2 ^ 60 = width_low z k h le in let q
 pub level_from : (k : ℕ) → level_at k ≡ width k - 63
 unfolding level_at width
 level_from k = refl
+
+pub start_is : (z : Layout) → start z ≡ 2 * width z.top - 63
+unfolding start
+start_is z =
+    let e : level_at (z.top + 1) ≡ level_at z.top + width z.top = ap level_at (add-one z.top) ∙ level_next z.top in
+    let f = level_from z.top in
+    let w = width_pos z.top in
+    omega arith

@@ -31,6 +31,7 @@ pub loop-i-init : goal.loop-i-init
 loop-i-init c = record {
   seat = c.look-count.ensures.seat;
   keeps = c.look-count.ensures.keeps;
+  slots = c.look-count.ensures.slots;
   same = λ ws i k l. absurd (omega arith);
 }
 
@@ -66,14 +67,15 @@ loop-i-preserved c =
     record {
       seat = q;
       keeps = k;
+      slots = c.look-word.ensures.slots ∙ c.loop-i.invariant.slots;
       same = λ ws i m l. ⊎_elim (λ b. c.loop-i.invariant.same ws i m b)
           (λ g.
-              let e : m ≡ c.loop-i.i = omega arith in
-              let j = In-extends (c.args.place, ws) c.args.seat.now.me.0.log s.log k.later.grows i in
-              let j' = In-extends (c.args.place, ws) c.args.seat.now.me.0.log t.log c.look-count.ensures.keeps.later.grows i in
-              let n = c.look-count.ensures.found ∙ count_read c.args.layout.now t.words t.log (c.args.place, ws) c.look-count.ensures.seat.pool j' in
-              let a = c.look-word.ensures.found ∙ word_read c.args.layout.now s.words s.log (c.args.place, ws) c.loop-i.i q.pool j (omega arith) in
-              subst (λ x. slice_index ws x ≡ slice_index c.args.key.now x) (sym e) (sym a ∙ c.if-word-key.false))
+          let e : m ≡ c.loop-i.i = omega arith in
+          let j = In-extends (c.args.place, ws) c.args.seat.now.me.0.log s.log k.later.grows i in
+          let j' = In-extends (c.args.place, ws) c.args.seat.now.me.0.log t.log c.look-count.ensures.keeps.later.grows i in
+          let n = c.look-count.ensures.found ∙ count_read c.args.layout.now t.words t.log (c.args.place, ws) c.look-count.ensures.seat.pool j' in
+          let a = c.look-word.ensures.found ∙ word_read c.args.layout.now s.words s.log (c.args.place, ws) c.loop-i.i q.pool j (omega arith) in
+          subst (λ x. slice_index ws x ≡ slice_index c.args.key.now x) (sym e) (sym a ∙ c.if-word-key.false))
           (cases_lt m c.loop-i.i);
     }
 

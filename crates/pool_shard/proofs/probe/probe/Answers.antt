@@ -33,6 +33,7 @@ loop-far-init c =
     record {
       seat = q;
       keeps = Keeps-refl v (subst (λ (y : Layout). IsPool y v.words v.log) (sym q.layout) q.pool);
+      slots = refl;
       passed = λ d l. absurd (omega arith);
     }
 
@@ -69,10 +70,10 @@ returns-then-value-eq0-clause-absent c =
     let g = later.heads (shard_of z key) (shard_in z key q.laid) in
     let hd = c.requires.head in
     absent z w.words w.log u.log (shard_of z key) c.args.at key c.loop-far.far n.pool
-        (still_passed z u v w c.args.at key c.loop-far.far q.laid q.layout c.loop-far.invariant.seat.layout hd c.loop-far.invariant.keeps c.look-value.ensures.keeps c.loop-far.invariant.passed)
-        (read z w c.args.at c.loop-far.far c.slot_of-slot.result c.look-value.result key q.laid n.pool le (c.slot_of-slot.ensures.slot key c.requires.hash) c.look-value.ensures.found ∙ c.if-value-eq0.true)
-        (λ r i. In-extends r u.log w.log later.grows i)
-        (λ r i e. later.reached (shard_of z key) c.args.at r (shard_in z key q.laid) (omega arith) (omega arith) i (ap (shard_of z) e))
+    (still_passed z u v w c.args.at key c.loop-far.far q.laid q.layout c.loop-far.invariant.seat.layout hd c.loop-far.invariant.keeps c.look-value.ensures.keeps c.loop-far.invariant.passed)
+    (read z w c.args.at c.loop-far.far c.slot_of-slot.result c.look-value.result key q.laid n.pool le (c.slot_of-slot.ensures.slot key c.requires.hash) c.look-value.ensures.found ∙ c.if-value-eq0.true)
+    (λ r i. In-extends r u.log w.log later.grows i)
+    (λ r i e. later.reached (shard_of z key) c.args.at r (shard_in z key q.laid) (omega arith) (omega arith) i (ap (shard_of z) e))
 
 pub returns-then-value-eq0-clause-free : goal.returns-then-value-eq0-clause-free
 returns-then-value-eq0-clause-free c =
@@ -144,10 +145,11 @@ loop-far-preserved c =
     } in
     let before = still_passed z u v w c.args.at key c.loop-far.far q.laid q.layout c.loop-far.invariant.seat.layout c.requires.head c.loop-far.invariant.keeps c.look-value.ensures.keeps c.loop-far.invariant.passed in
     let now : (d : ℕ) → d < c.loop-far.far + 1 → IsPassed (level z w.words (shard_of z key) c.args.at) c.args.at key w.log d =
-        λ d l. ⊎_elim (λ b. before d b) (λ g. let e : c.loop-far.far ≡ d = omega arith in subst (λ m. IsPassed (level z w.words (shard_of z key) c.args.at) c.args.at key w.log m) e here) (cases_lt d c.loop-far.far) in
+    λ d l. ⊎_elim (λ b. before d b) (λ g. let e : c.loop-far.far ≡ d = omega arith in subst (λ m. IsPassed (level z w.words (shard_of z key) c.args.at) c.args.at key w.log m) e here) (cases_lt d c.loop-far.far) in
     record {
       seat = c.row_is.ensures.seat;
       keeps = ux;
+      slots = c.row_is.ensures.slots ∙ c.look-value.ensures.slots ∙ c.loop-far.invariant.slots;
       passed = still_passed z u w x c.args.at key (c.loop-far.far + 1) q.laid q.layout n.layout c.requires.head uw c.row_is.ensures.keeps now;
     }
 
@@ -160,4 +162,4 @@ unreachable-requires c =
     let n = c.loop-far.invariant.seat in
     let le = in_levels z c.args.seat.now.me.0 c.args.at (shard_of z key) q.pool (shard_in z key q.laid) c.requires.head in
     not_full z v.words v.log (shard_of z key) c.args.at q.laid n.pool (shard_in z key q.laid) le key
-        (λ d l. passed_taken (level z v.words (shard_of z key) c.args.at) c.args.at key v.log d (c.loop-far.invariant.passed d (let t = c.loop-far-test.false in let e = c.slots_of-slots.ensures in omega arith)))
+    (λ d l. passed_taken (level z v.words (shard_of z key) c.args.at) c.args.at key v.log d (c.loop-far.invariant.passed d (let t = c.loop-far-test.false in let e = c.slots_of-slots.ensures in omega arith)))
