@@ -1,3 +1,6 @@
 pub mod Keeping
 pub mod Readings
 pub mod Filling
+pub mod Publishing
+pub mod Knowing
+pub mod Counting

@@ -88,3 +88,14 @@ pub record IsRows {S : Type 0} (z : Layout) (t : TableId) (q : Seat S View) (cou
   pub many_sums : length sums ≡ z.shards
   pub owns : (s : ℕ) → s < z.shards → In s q.me.0.writes
   pub parts : (s : ℕ) → s < z.shards → IsPart z q.me.0 s (slice_index counts s) (slice_index sums s)
+
+-- Steps by which one row more is published in a shard
+pub record Adds (s : ℕ) (r : Row) (v w : View) : Type 0 where
+  pub layout : w.layout ≡ v.layout
+  pub writes : w.writes ≡ v.writes
+  pub later : Earlier v.layout v.words v.log w.words w.log
+  pub heads : (t : ℕ) → In t v.writes → (t ≡ s → ⊥) → head v.layout w.words t ≡ head v.layout v.words t
+  pub levels : (t k : ℕ) → In t v.writes → (t ≡ s → ⊥) → k ≤ v.layout.top → level v.layout w.words t k ≡ level v.layout v.words t k
+  pub rows : (t : ℕ) → In t v.writes → (t ≡ s → ⊥) → rows_of v.layout t w.log ≡ rows_of v.layout t v.log
+  pub added : rows_of v.layout s w.log ≡ rows_of v.layout s v.log ++ r ∷ []
+  pub ready : IsReadyShard v.layout w.words s

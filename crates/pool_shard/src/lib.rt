@@ -6,10 +6,13 @@
 //! The crate stands on `pool_words` and `type_form`.
 #![tactic(auto)]
 
+mod add;
 mod find;
 mod hash;
 mod look;
 mod probe;
+mod rows;
 mod write;
 
 pub use hash::hash_key;
+pub use rows::{Full, PoolRows};

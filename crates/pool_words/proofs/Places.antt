@@ -1,5 +1,5 @@
 -- Where shards and levels lie.
-use Rattle.std.proofs.Common.{◌≡◌, ◌⊎◌, inl, inr, ⊎_elim, ℕ, suc, ◌+◌, ◌-◌, ◌*◌, ◌/◌, ◌%◌, ◌^◌, ◌<◌, ◌≤◌, List, refl, ap, ◌∙◌, arith, mul-le-mul_right, suc-mul, add-one}
+use Rattle.std.proofs.Common.{◌≡◌, ◌⊎◌, inl, inr, ⊎_elim, ℕ, suc, ◌+◌, ◌-◌, ◌*◌, ◌/◌, ◌%◌, ◌^◌, ◌<◌, ◌≤◌, List, refl, ap, ◌∙◌, arith, mul-le-mul_right, suc-mul, add-one, subst, sym}
 use Rattle.std.proofs.lemmas.Bool.{cases_lt, cases_order}
 use Rattle.std.proofs.lemmas.Nat.{pow_pos, mod-mul-add}
 use Rattle.std.proofs.Math.Nat.{pow-suc, pow-le-pow_right, mod-lt, mod-eq_of_lt, mod-add-div', mod-add-mod}
@@ -17,6 +17,20 @@ halves k = let q : ℕ = 2 ^ k in let r : 32 * q + 32 * q ≡ 64 * q = omega ari
 pub half_mono : (k l : ℕ) → k ≤ l → half k ≤ half l
 unfolding half
 half_mono k l h = let e : 2 ^ k ≤ 2 ^ l = pow-le-pow_right {n = 2} (omega arith) h in let a : ℕ = 2 ^ k in let b : ℕ = 2 ^ l in let e' : a ≤ b = e in omega arith
+
+pub half_next : (k : ℕ) → half k < half (suc k)
+unfolding half
+half_next k =
+    let p : 0 < 2 ^ k = pow_pos k in
+    let e : 2 ^ suc k ≡ 2 ^ k * 2 = pow-suc 2 k in
+    let q : ℕ = 2 ^ k in
+    let p' : 0 < q = p in
+    let f : 32 * q < 32 * (q * 2) = omega arith in
+    subst (λ n. 32 * q < 32 * n) (sym e) f
+
+pub half_is : (k : ℕ) → half k ≡ 32 * 2 ^ k
+unfolding half
+half_is k = refl
 
 pub half_pos : (k : ℕ) → 32 ≤ half k
 unfolding half
