@@ -1,13 +1,13 @@
 -- The counts of the shards, after steps.
-use Rattle.std.proofs.Common.{◌≡◌, ◌⊎◌, inl, inr, ⊎_elim, ℕ, suc, ◌+◌, ◌<◌, ◌≤◌, List, [], ◌∷◌, ◌++◌, length, set, slice_index, refl, sym, ap, ◌∙◌, subst, arith, get_or-set_same, get_or-set_other, length-append}
+use Rattle.std.proofs.Common.{◌≡◌, ⊎_elim, ℕ, suc, ◌+◌, ◌<◌, ◌≤◌, List, [], ◌∷◌, ◌++◌, length, set, slice_index, sym, ap, ◌∙◌, subst, arith, get_or-set_same, get_or-set_other, length-append}
 use Rattle.std.proofs.lemmas.Bool.{cases_eq}
 use Rattle.std.proofs.lemmas.List.{length-set}
 use Rattle.atomic_table.specs.Seated.{TableId}
 use Rattle.atomic_table.specs.declared.shared.Seat.{Seat}
 use Rattle.pool_words.specs.declared.view.Layout.{Layout}
 use Rattle.pool_words.specs.declared.view.View.{View}
-use Rattle.pool_words.specs.Layout.{Row, used, rows_of, head, level, IsLayout}
-use Rattle.pool_words.specs.Rule.{In, HasRows, IsPool}
+use Rattle.pool_words.specs.Layout.{Row, used, rows_of, head, level}
+use Rattle.pool_words.specs.Rule.{In, HasRows}
 use Rattle.pool_words.proofs.Members.{used-push}
 use Rattle.pool_shard.specs.Looks.{IsSeat, Keeps, Touches, Adds, IsReadyShard, IsPart, IsRows}
 use Rattle.pool_shard.proofs.Publishing.{IsReady-keeps}
@@ -85,6 +85,6 @@ IsRows-adds z t q r v counts sums s row h seat lt a b slots = record {
         let d = get_or-set_other sums s n (slice_index sums s + length row.1 + 1) 0 ne in
         let hd : head z r.me.0.words n ≡ head z q.me.0.words n = subst (λ y. head y r.me.0.words n ≡ head y v.words n) lv (b.heads n j ne) ∙ subst (λ y. head y v.words n ≡ head y q.me.0.words n) lu (a.heads n i ne) in
         let lvl : (k : ℕ) → k ≤ z.top → level z r.me.0.words n k ≡ level z q.me.0.words n k = λ k le.
-            subst (λ y. level y r.me.0.words n k ≡ level y v.words n k) lv (b.levels n k j ne (subst (λ (y : Layout). k ≤ y.top) (sym lv) le)) ∙ subst (λ y. level y v.words n k ≡ level y q.me.0.words n k) lu (a.levels n k i ne (subst (λ (y : Layout). k ≤ y.top) (sym lu) le)) in
+        subst (λ y. level y r.me.0.words n k ≡ level y v.words n k) lv (b.levels n k j ne (subst (λ (y : Layout). k ≤ y.top) (sym lv) le)) ∙ subst (λ y. level y v.words n k ≡ level y q.me.0.words n k) lu (a.levels n k i ne (subst (λ (y : Layout). k ≤ y.top) (sym lu) le)) in
         let rows : rows_of z n r.me.0.log ≡ rows_of z n q.me.0.log = subst (λ y. rows_of y n r.me.0.log ≡ rows_of y n v.log) lv (b.rows n j ne) ∙ subst (λ y. rows_of y n v.log ≡ rows_of y n q.me.0.log) lu (a.rows n i) in
         subst (λ x. IsPart z r.me.0 n x (slice_index (set sums s (slice_index sums s + length row.1 + 1)) n)) (sym c) (subst (λ x. IsPart z r.me.0 n (slice_index counts n) x) (sym d) (IsPart-same z q.me.0 r.me.0 n (slice_index counts n) (slice_index sums n) hd lvl rows (h.parts n l)))

@@ -1,16 +1,15 @@
 -- What one more row in the next level does to a seat's view.
-use Rattle.std.proofs.Common.{◌≡◌, ◌≢◌, ◌⊎◌, inl, inr, ⊎_elim, ℕ, suc, ◌+◌, ◌%◌, ◌<◌, ◌≤◌, List, [], ◌∷◌, ◌++◌, length, set, take, slice_index, refl, sym, ap, ◌∙◌, subst, arith, add-one}
-use Rattle.std.proofs.lemmas.Bool.{cases_eq}
+use Rattle.std.proofs.Common.{◌≡◌, ℕ, suc, ◌+◌, ◌%◌, ◌<◌, ◌≤◌, List, [], ◌∷◌, ◌++◌, length, set, take, sym, ap, ◌∙◌, subst, arith, add-one}
 use Rattle.pool_words.specs.declared.view.Layout.{Layout}
 use Rattle.pool_words.specs.declared.view.View.{View}
-use Rattle.pool_words.specs.Layout.{Row, width, spot, level_at, hash_of, shard_of, base, start, rows_of, head, level, IsLayout}
+use Rattle.pool_words.specs.Layout.{Row, spot, level_at, hash_of, shard_of, base, rows_of, head, level, IsLayout}
 use Rattle.pool_words.specs.Rule.{In, HasRows, IsPool, Earlier, Same}
 use Rattle.pool_words.specs.Views.{IsNext, IsFull, Moves}
 use Rattle.pool_words.proofs.Members.{In-last, In-take, rows_of-In}
 use Rattle.pool_words.proofs.Levels.{HasRows-set}
 use Rattle.pool_words.proofs.Shards.{level_spared, levels_spare}
 use Rattle.pool_words.proofs.Growing.{fill_low, fill_high, fill_level, fill_else, next_long, heads_stay, moved, head_else, levels_all}
-use Rattle.pool_words.proofs.Orders.{Earlier-refl, Earlier-trans, head_same, level_same}
+use Rattle.pool_words.proofs.Orders.{Earlier-trans, head_same, level_same}
 use Rattle.pool_shard.specs.Looks.{Keeps, IsSpot, Touches, Fills, IsNextRow}
 
 pub same_shard : (z : Layout) (a b : List ℕ) → hash_of a ≡ hash_of b → shard_of z a ≡ shard_of z b

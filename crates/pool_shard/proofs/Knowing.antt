@@ -1,8 +1,8 @@
 -- The published rows as pairs of index and key.
-use Rattle.std.proofs.Common.{◌≡◌, ◌⊎◌, inl, inr, ⊎_elim, ℕ, ◌==◌, Bool, true, false, if◌then◌else◌, List, [], ◌∷◌, ◌++◌, Option, Some, None, IsSome, refl, sym, ap, ◌∙◌, subst}
+use Rattle.std.proofs.Common.{◌≡◌, inl, inr, ⊎_elim, ℕ, ◌==◌, Bool, true, false, if◌then◌else◌, List, [], ◌∷◌, ◌++◌, Option, Some, None, IsSome, refl, sym, ap, ◌∙◌, subst}
 use Rattle.std.proofs.lemmas.Bool.{eqb-true, eq-eqb}
 use Rattle.type_form.specs.declared.index.Index.{Index}
-use Rattle.type_form.specs.Known.{Known, words_at, Keeps, IsInjective}
+use Rattle.type_form.specs.Known.{words_at, Keeps, IsInjective}
 use Rattle.type_form.specs.Words.{index_of}
 use Rattle.type_form.specs.Means.{Grows}
 use Rattle.type_form.proofs.MeansLemmas.{Grows-keeps}

@@ -4,3 +4,4 @@ pub mod Filling
 pub mod Publishing
 pub mod Knowing
 pub mod Counting
+pub mod Starting

@@ -1,10 +1,10 @@
 -- What the publication of a row does to a seat's view.
-use Rattle.std.proofs.Common.{◌≡◌, ◌≢◌, ◌⊎◌, inl, inr, ⊎_elim, ℕ, suc, ◌+◌, ◌<◌, ◌≤◌, List, [], ◌∷◌, ◌++◌, length, set, slice_index, refl, sym, ap, ◌∙◌, subst, arith}
+use Rattle.std.proofs.Common.{◌≡◌, ◌≢◌, ℕ, suc, ◌+◌, ◌<◌, ◌≤◌, List, [], ◌∷◌, ◌++◌, length, set, slice_index, refl, sym, ap, ◌∙◌, subst, arith}
 use Rattle.pool_words.specs.declared.view.Layout.{Layout}
 use Rattle.pool_words.specs.declared.view.View.{View}
 use Rattle.pool_words.specs.Layout.{Row, width, half, spot, level_at, window, used, shard_of, base, start, rows_of, head, level, IsLayout}
 use Rattle.pool_words.specs.Rule.{In, HasRows, IsPool, Earlier, Same}
-use Rattle.pool_words.specs.Views.{IsFree, IsReady, Moves}
+use Rattle.pool_words.specs.Views.{IsFree, Moves}
 use Rattle.pool_words.proofs.Members.{rows_of-push, rows_of-other}
 use Rattle.pool_words.proofs.Shards.{head_spared, level_spared, publish_head, publish_else, publish_spares}
 use Rattle.pool_words.proofs.Orders.{Earlier-trans, head_same, level_same}
@@ -64,8 +64,8 @@ module _ (z : Layout) (v w : View) (slot : ℕ) (r : Row) (l : IsLayout z) (p : 
       let h = now_head in
       let le : suc (head z v.words (shard_of z r.1)) ≤ z.top = omega arith in
       let lv : level z w.words (shard_of z r.1) (suc (head z v.words (shard_of z r.1))) ≡ level z v.words (shard_of z r.1) (suc (head z v.words (shard_of z r.1))) =
-          sym (level_same z (shard_of z r.1) (suc (head z v.words (shard_of z r.1))) (set v.words slot (r.0 + 1)) (v.log ++ r ∷ []) w.words w.log l le (same (shard_of z r.1) ours))
-          ∙ publish_else z v.words v.log slot r l p f (suc (head z v.words (shard_of z r.1))) le (λ c. absurd (omega arith)) in
+      sym (level_same z (shard_of z r.1) (suc (head z v.words (shard_of z r.1))) (set v.words slot (r.0 + 1)) (v.log ++ r ∷ []) w.words w.log l le (same (shard_of z r.1) ours))
+      ∙ publish_else z v.words v.log slot r l p f (suc (head z v.words (shard_of z r.1))) le (λ c. absurd (omega arith)) in
       subst (λ n. HasRows (level z w.words (shard_of z r.1) (suc n)) (suc n) []) (sym h) (subst (λ slots. HasRows slots (suc (head z v.words (shard_of z r.1))) []) (sym lv) (ready (omega arith)))
 
   pub Adds-publish : Adds (shard_of z r.1) r v w

@@ -1,20 +1,19 @@
 -- What the words of a row and of a level tell.
-use Rattle.std.proofs.Common.{◌≡◌, ◌≢◌, ◌⊎◌, inl, inr, ⊎_elim, ℕ, zero, suc, ◌+◌, ◌-◌, ◌*◌, ◌/◌, ◌%◌, ◌^◌, ◌<◌, ◌≤◌, List, [], ◌∷◌, ◌++◌, length, get_or, take, refl, sym, ap, ◌∙◌, subst, arith, slice_index}
-use Rattle.std.proofs.lemmas.Bool.{cases_lt, cases_order}
+use Rattle.std.proofs.Common.{◌≡◌, ◌≢◌, inl, inr, ⊎_elim, ℕ, zero, suc, ◌+◌, ◌-◌, ◌*◌, ◌/◌, ◌%◌, ◌^◌, ◌<◌, ◌≤◌, List, [], ◌∷◌, ◌++◌, length, take, refl, sym, ap, ◌∙◌, subst, arith, slice_index}
+use Rattle.std.proofs.lemmas.Bool.{cases_order}
 use Rattle.std.proofs.lemmas.List.{length-take}
-use Rattle.std.specs.Bool.{MatchBool}
 use Rattle.std.proofs.lemmas.List.{ext_get_or}
 use Rattle.pool_words.specs.declared.view.Layout.{Layout}
 use Rattle.pool_words.specs.declared.view.View.{View}
-use Rattle.pool_words.specs.Layout.{Row, window, width, half, level_at, spot, hash_of, used, shard_of, base, start, rows_of, head, level, IsLayout}
-use Rattle.pool_words.specs.Rule.{In, Stands, HasRows, taken, IsRow, Laid, IsPool, Earlier}
+use Rattle.pool_words.specs.Layout.{Row, window, width, level_at, spot, hash_of, used, shard_of, base, rows_of, head, level, IsLayout}
+use Rattle.pool_words.specs.Rule.{In, Stands, Laid, IsPool, Earlier}
 use Rattle.pool_words.proofs.Windows.{window_length, window_index, one_row}
 use Rattle.pool_words.proofs.Members.{In-extends, In-take, rows_of-In, used-cons, used-nil}
-use Rattle.pool_words.proofs.Places.{width_pos, halves, level_ends, level_pos, start_low, spot_in, shard_in, base_in, width_low, level_from}
+use Rattle.pool_words.proofs.Places.{width_pos, halves, level_ends, start_low, spot_in, shard_in, base_in, width_low, level_from}
 use Rattle.std.proofs.Math.Nat.{mod-lt, div-lt_iff_lt-mul}
 use Rattle.pool_words.proofs.Levels.{circle_full}
 use Rattle.pool_words.proofs.Shards.{row_in}
-use Rattle.pool_shard.specs.Looks.{IsSpot, IsPassed, HasNot}
+use Rattle.pool_shard.specs.Looks.{IsPassed, HasNot}
 
 -- a row lies within the words
 pub place_in : (z : Layout) (ws : List ℕ) (log : List Row) (r : Row) → IsLayout z → IsPool z ws log → In r log → r.0 + length r.1 < z.words

@@ -4,7 +4,7 @@ use Rattle.atomic_table.specs.Seated.{TableId}
 use Rattle.atomic_table.specs.declared.shared.Seat.{Seat}
 use Rattle.pool_words.specs.declared.view.Layout.{Layout}
 use Rattle.pool_words.specs.declared.view.View.{View}
-use Rattle.pool_words.specs.Layout.{Row, width, half, spot, level_at, base, used, shard_of, rows_of, head, level, IsLayout}
+use Rattle.pool_words.specs.Layout.{Row, width, half, spot, level_at, base, used, rows_of, head, level, IsLayout}
 use Rattle.pool_words.specs.Rule.{In, HasRows, IsPool, Earlier}
 
 -- a seat at a table of this layout

@@ -12,6 +12,8 @@ mod hash;
 mod look;
 mod probe;
 mod rows;
+#[cfg(test)]
+mod tests;
 mod write;
 
 pub use hash::hash_key;

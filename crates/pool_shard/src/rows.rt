@@ -120,7 +120,13 @@ impl PoolRows {
         ensures agrees { IsInjective (known self.new) }
         ensures words { words_at (known self.old) i ≡ Some into.new }
     {
-        read_row(&self.words, &self.layout, &mut self.seat, i.0 as usize, into);
+        read_row(
+            &self.words,
+            &self.layout,
+            &mut self.seat,
+            i.0 as usize,
+            into,
+        );
     }
 
     /// The index of a key of 1 to 64 words, which is known from then on. Takes no memory.
@@ -184,7 +190,15 @@ impl PoolRows {
             key,
             count,
         );
-        let place = add_row(&self.words, &self.layout, &mut self.seat, shard, slot, taken, key);
+        let place = add_row(
+            &self.words,
+            &self.layout,
+            &mut self.seat,
+            shard,
+            slot,
+            taken,
+            key,
+        );
         self.counts[shard] = count + 1;
         self.sums[shard] = taken + key.len() + 1;
         Ok(Index(place as u64))

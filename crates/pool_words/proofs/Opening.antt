@@ -16,7 +16,7 @@ use Rattle.pool_words.proofs.Places.{level_ends, start_low, start_pos, base_in}
 use Rattle.pool_words.proofs.Levels.{HasRows-none}
 use Rattle.pool_words.proofs.Orders.{Earlier-refl, Same-refl}
 
-no_rows : (z : Layout) (s : ℕ) → rows_of z s [] ≡ []
+pub no_rows : (z : Layout) (s : ℕ) → rows_of z s [] ≡ []
 unfolding rows_of
 no_rows z s = refl
 

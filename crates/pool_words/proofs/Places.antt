@@ -1,5 +1,5 @@
 -- Where shards and levels lie.
-use Rattle.std.proofs.Common.{◌≡◌, ◌⊎◌, inl, inr, ⊎_elim, ℕ, suc, ◌+◌, ◌-◌, ◌*◌, ◌/◌, ◌%◌, ◌^◌, ◌<◌, ◌≤◌, List, refl, ap, ◌∙◌, arith, mul-le-mul_right, suc-mul, add-one, subst, sym}
+use Rattle.std.proofs.Common.{◌≡◌, ◌⊎◌, inl, inr, ⊎_elim, ℕ, zero, suc, ◌+◌, ◌-◌, ◌*◌, ◌/◌, ◌%◌, ◌^◌, ◌<◌, ◌≤◌, List, refl, ap, ◌∙◌, arith, mul-le-mul_right, suc-mul, add-one, subst, sym}
 use Rattle.std.proofs.lemmas.Bool.{cases_lt, cases_order}
 use Rattle.std.proofs.lemmas.Nat.{pow_pos, mod-mul-add}
 use Rattle.std.proofs.Math.Nat.{pow-suc, pow-le-pow_right, mod-lt, mod-eq_of_lt, mod-add-div', mod-add-mod}
@@ -179,3 +179,8 @@ start_is z =
     let f = level_from z.top in
     let w = width_pos z.top in
     omega arith
+
+-- a level begins behind its number
+pub top_low : (k : ℕ) → k ≤ level_at k
+top_low zero = omega arith
+top_low (suc k) = let t = top_low k in let n = level_next k in let w = width_pos k in omega arith

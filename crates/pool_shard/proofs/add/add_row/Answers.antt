@@ -1,9 +1,9 @@
-use Rattle.std.proofs.Common.{◌≡◌, ℕ, suc, ◌+◌, ◌<◌, ◌≤◌, List, [], ◌∷◌, ◌++◌, length, set, refl, sym, ap, ◌∙◌, subst, arith}
+use Rattle.std.proofs.Common.{◌≡◌, ℕ, suc, ◌+◌, ◌<◌, ◌≤◌, List, [], ◌∷◌, ◌++◌, length, set, refl, sym, ap, subst, arith}
 use Rattle.pool_words.specs.declared.view.Layout.{Layout}
 use Rattle.pool_words.specs.declared.view.View.{View}
-use Rattle.pool_words.specs.Layout.{Row, window, base, start, used, shard_of, rows_of, IsLayout}
+use Rattle.pool_words.specs.Layout.{Row, window, base, start, used, shard_of, rows_of}
 use Rattle.pool_words.specs.Rule.{In, IsPool}
-use Rattle.pool_words.specs.Views.{IsFree, IsReady, Moves}
+use Rattle.pool_words.specs.Views.{IsFree, IsReady}
 use Rattle.pool_words.proofs.Places.{base_in}
 use Rattle.pool_shard.specs.Looks.{Keeps, IsOpen, IsReadyShard, Adds, HasNot}
 use Rattle.pool_shard.proofs.Keeping.{IsSeat-moves}

@@ -1,5 +1,4 @@
-use Rattle.std.proofs.Common.{◌≡◌, ◌/◌, ◌∙◌, ap, arith}
-use Rattle.pool_words.specs.Layout.{half, width}
+use Rattle.std.proofs.Common.{arith}
 use Rattle.pool_words.proofs.Places.{halves}
 use Rattle.pool_shard.proofs.add.half_of.Goals as goal
 

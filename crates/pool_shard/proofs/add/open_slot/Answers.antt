@@ -1,9 +1,9 @@
-use Rattle.std.proofs.Common.{◌≡◌, ℕ, suc, ◌+◌, ◌<◌, ◌≤◌, ◌^◌, List, length, refl, sym, ap, ◌∙◌, subst, arith, add-one}
+use Rattle.std.proofs.Common.{◌≡◌, ℕ, suc, ◌+◌, ◌<◌, ◌≤◌, List, length, sym, ap, ◌∙◌, subst, arith, add-one}
 use Rattle.pool_words.specs.declared.view.Layout.{Layout}
 use Rattle.pool_words.specs.declared.view.View.{View}
-use Rattle.pool_words.specs.Layout.{Row, half, width, spot, level_at, base, shard_of, hash_of, rows_of, head, level, IsLayout}
+use Rattle.pool_words.specs.Layout.{half, spot, level_at, base, shard_of, rows_of, head, level, IsLayout}
 use Rattle.pool_words.specs.Rule.{In, IsPool}
-use Rattle.pool_words.proofs.Places.{level_low, halves, half_pos, half_next, half_mono}
+use Rattle.pool_words.proofs.Places.{level_low, half_next}
 use Rattle.pool_shard.specs.Looks.{Keeps, IsSpot, IsOpen, IsReadyShard, Touches}
 use Rattle.pool_shard.proofs.Keeping.{Keeps-refl}
 use Rattle.pool_shard.proofs.Filling.{same_shard, Touches-keeps, Touches-trans}
@@ -22,8 +22,7 @@ returns-then-count-half_of-clause-slot c =
     let e = c.requires.key.1 in
     let n = c.requires.count.0 in
     let h = c.half_of.ensures in
-    let t = c.if-count-half_of.true in
-    (
+    let t = c.if-count-half_of.true in (
       c.args.at,
       c.args.far,
       record {
@@ -79,8 +78,7 @@ returns-clause-slot c =
     let q = c.requires.seat in
     let u = c.args.seat.now.me.0 in
     let v = c.grow.new.seat.me.0 in
-    let w = c.free_spot-far.new.seat.me.0 in
-    (
+    let w = c.free_spot-far.new.seat.me.0 in (
       suc c.args.at,
       c.free_spot-far.result,
       opened z u v w c.args.shard c.args.at c.free_spot-far.result c.slot_of-2.result c.args.count c.args.key.now q.layout c.grow.ensures.seat.layout q.laid c.grow.ensures.seat.pool c.requires.ours.1 c.requires.key.1 c.requires.ours.0 c.grow.ensures.touches c.free_spot-far.ensures.keeps c.grow.ensures.live c.grow.ensures.ready

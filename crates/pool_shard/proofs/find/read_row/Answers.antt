@@ -1,6 +1,5 @@
-use Rattle.std.proofs.Common.{◌≡◌, ℕ, ◌+◌, ◌<◌, ◌≤◌, ◌∷◌, [], ◌++◌, List, length, take, slice_index, sym, ap, ◌∙◌, subst, arith, length-take, take_all}
+use Rattle.std.proofs.Common.{◌≡◌, ◌∷◌, [], ◌++◌, length, take, slice_index, sym, ap, ◌∙◌, arith, length-take, take_all}
 use Rattle.std.proofs.lemmas.List.{take_more}
-use Rattle.pool_words.specs.Rule.{In}
 use Rattle.pool_words.proofs.Members.{In-extends}
 use Rattle.pool_shard.proofs.Keeping.{Keeps-trans}
 use Rattle.pool_shard.proofs.Readings.{place_in, row_facts, word_read}

@@ -1,4 +1,4 @@
-use Rattle.std.proofs.Common.{◌≡◌, ◌∙◌, sym, ap, drop, arith, length, bit_xor, ◌/◌, ◌^◌}
+use Rattle.std.proofs.Common.{◌∙◌, sym, ap, arith, bit_xor, ◌/◌, ◌^◌}
 use Rattle.std.proofs.lemmas.List.{at_drop_more, at_drop_all}
 use Rattle.pool_words.specs.Layout.{hash_of, hash_from}
 use Rattle.pool_shard.proofs.hash.hash_key.Goals as goal

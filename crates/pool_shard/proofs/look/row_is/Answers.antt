@@ -1,7 +1,5 @@
-use Rattle.std.proofs.Common.{◌≡◌, ◌⊎◌, ⊎_elim, ℕ, ◌+◌, ◌<◌, ◌≤◌, List, length, slice_index, refl, sym, ap, ◌∙◌, subst, arith}
+use Rattle.std.proofs.Common.{◌≡◌, ⊎_elim, ℕ, List, length, slice_index, sym, ap, ◌∙◌, subst, arith}
 use Rattle.std.proofs.lemmas.Bool.{cases_lt}
-use Rattle.pool_words.specs.Layout.{Row}
-use Rattle.pool_words.specs.Rule.{In}
 use Rattle.pool_words.proofs.Members.{In-extends}
 use Rattle.pool_shard.proofs.Keeping.{Keeps-trans}
 use Rattle.pool_shard.proofs.Readings.{place_in, count_read, word_read, same_keys}

@@ -1,4 +1,4 @@
-use Rattle.std.proofs.Common.{◌≡◌, ℕ, ◌<◌, List, length, slice_index}
+use Rattle.std.proofs.Common.{◌≡◌, ℕ, ◌<◌, List, slice_index}
 use Rattle.pool_words.specs.Rule.{In}
 use Rattle.pool_shard.specs.Looks.{IsSeat, Keeps}
 use Rattle.pool_shard.proofs.look.row_is.Given as goal

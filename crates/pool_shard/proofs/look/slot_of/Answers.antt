@@ -1,4 +1,4 @@
-use Rattle.std.proofs.Common.{arith, ℕ, ◌+◌, ◌<◌, ◌^◌}
+use Rattle.std.proofs.Common.{arith, ℕ, ◌<◌, ◌^◌}
 use Rattle.pool_words.proofs.Places.{width_pos, size_low}
 use Rattle.pool_shard.proofs.Readings.{slot_sum, slot_is}
 use Rattle.pool_shard.proofs.look.slot_of.Goals as goal

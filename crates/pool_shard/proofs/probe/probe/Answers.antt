@@ -1,12 +1,12 @@
-use Rattle.std.proofs.Common.{◌≡◌, ◌≢◌, ◌⊎◌, ⊎_elim, ℕ, zero, suc, ◌+◌, ◌-◌, ◌<◌, ◌≤◌, Bool, true, false, List, length, slice_index, refl, sym, ap, ◌∙◌, subst, arith, MatchBool}
+use Rattle.std.proofs.Common.{◌≡◌, ⊎_elim, ℕ, ◌+◌, ◌-◌, ◌<◌, ◌≤◌, List, slice_index, refl, sym, ap, ◌∙◌, subst, arith}
 use Rattle.std.proofs.lemmas.Bool.{cases_lt, MatchBool-at_true, MatchBool-at_false}
 use Rattle.pool_words.specs.declared.view.Layout.{Layout}
 use Rattle.pool_words.specs.declared.view.View.{View}
-use Rattle.pool_words.specs.Layout.{Row, width, spot, level_at, shard_of, base, head, level, IsLayout}
-use Rattle.pool_words.specs.Rule.{In, IsPool, Earlier, Stands}
+use Rattle.pool_words.specs.Layout.{spot, level_at, shard_of, base, head, level, IsLayout}
+use Rattle.pool_words.specs.Rule.{In, IsPool, Earlier}
 use Rattle.pool_words.proofs.Members.{In-extends}
 use Rattle.pool_words.proofs.Places.{shard_in, spot_in}
-use Rattle.pool_shard.specs.Looks.{IsSeat, Keeps, IsPassed, IsSpot, HasNot}
+use Rattle.pool_shard.specs.Looks.{Keeps, IsPassed}
 use Rattle.pool_shard.proofs.Keeping.{Keeps-refl, Keeps-trans}
 use Rattle.pool_shard.proofs.Readings.{slot_row, slot_read, not_full, passed_later, passed_taken, absent}
 use Rattle.pool_shard.proofs.probe.probe.Goals as goal

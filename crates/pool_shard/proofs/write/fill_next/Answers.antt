@@ -1,12 +1,11 @@
-use Rattle.std.proofs.Common.{◌≡◌, ℕ, suc, ◌+◌, ◌<◌, ◌≤◌, ◌^◌, List, length, set, take, refl, sym, ap, ◌∙◌, subst, arith}
+use Rattle.std.proofs.Common.{◌≡◌, ℕ, suc, ◌+◌, ◌<◌, ◌^◌, length, set, sym, ap, ◌∙◌, subst, arith}
 use Rattle.pool_words.specs.declared.view.Layout.{Layout}
 use Rattle.pool_words.specs.declared.view.View.{View}
-use Rattle.pool_words.specs.Layout.{Row, width, hash_of, shard_of, level, IsLayout}
-use Rattle.pool_words.specs.Rule.{In, HasRows, IsPool}
-use Rattle.pool_words.specs.Views.{IsNext, Moves, CanFill}
-use Rattle.pool_words.proofs.Members.{In-extends}
+use Rattle.pool_words.specs.Layout.{Row, shard_of, IsLayout}
+use Rattle.pool_words.specs.Rule.{In, IsPool}
+use Rattle.pool_words.specs.Views.{IsNext, Moves}
 use Rattle.pool_words.proofs.Places.{level_low}
-use Rattle.pool_shard.specs.Looks.{Keeps, IsNextRow, IsSpot}
+use Rattle.pool_shard.specs.Looks.{IsNextRow}
 use Rattle.pool_shard.proofs.Keeping.{Keeps-trans}
 use Rattle.pool_shard.proofs.Readings.{place_in}
 use Rattle.pool_shard.proofs.Filling.{same_shard, next_in, IsNext-of, Fills-store, filled_store, Fills-keeps, Fills-trans}

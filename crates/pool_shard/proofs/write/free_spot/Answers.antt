@@ -1,8 +1,8 @@
-use Rattle.std.proofs.Common.{◌≡◌, ◌≢◌, ◌⊎◌, ⊎_elim, ℕ, ◌+◌, ◌<◌, ◌≤◌, List, slice_index, refl, sym, ap, ◌∙◌, subst, arith}
+use Rattle.std.proofs.Common.{◌≡◌, ◌≢◌, ⊎_elim, ℕ, ◌≤◌, slice_index, refl, sym, ◌∙◌, subst, arith}
 use Rattle.std.proofs.lemmas.Bool.{cases_lt}
 use Rattle.pool_words.specs.declared.view.Layout.{Layout}
 use Rattle.pool_words.specs.declared.view.View.{View}
-use Rattle.pool_words.specs.Layout.{spot, shard_of, hash_of, level}
+use Rattle.pool_words.specs.Layout.{spot, shard_of, level}
 use Rattle.pool_words.specs.Rule.{In, IsPool}
 use Rattle.pool_words.proofs.Places.{shard_in}
 use Rattle.pool_shard.specs.Looks.{Keeps}

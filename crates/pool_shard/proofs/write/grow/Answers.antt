@@ -1,10 +1,10 @@
-use Rattle.std.proofs.Common.{◌≡◌, ◌⊎◌, ⊎_elim, ℕ, suc, ◌+◌, ◌<◌, ◌≤◌, ◌^◌, List, [], length, set, take, refl, sym, ap, ◌∙◌, subst, arith, add-one}
+use Rattle.std.proofs.Common.{◌≡◌, ℕ, suc, ◌+◌, ◌<◌, ◌≤◌, List, [], length, set, take, refl, sym, ap, ◌∙◌, subst, arith, add-one}
 use Rattle.std.proofs.lemmas.List.{take_all}
 use Rattle.pool_words.specs.declared.view.Layout.{Layout}
 use Rattle.pool_words.specs.declared.view.View.{View}
-use Rattle.pool_words.specs.Layout.{Row, half, base, start, used, rows_of, head, level, IsLayout}
-use Rattle.pool_words.specs.Rule.{In, HasRows, Laid, IsPool}
-use Rattle.pool_words.specs.Views.{IsFull, Moves, CanMove}
+use Rattle.pool_words.specs.Layout.{Row, half, base, start, used, rows_of, head, level}
+use Rattle.pool_words.specs.Rule.{In, HasRows, IsPool}
+use Rattle.pool_words.specs.Views.{IsFull, Moves}
 use Rattle.pool_words.proofs.Members.{used-nil}
 use Rattle.pool_words.proofs.Places.{level_low}
 use Rattle.pool_shard.specs.Looks.{Fills, IsNextRow, IsReadyShard}

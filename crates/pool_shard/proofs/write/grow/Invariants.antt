@@ -1,4 +1,4 @@
-use Rattle.std.proofs.Common.{◌≡◌, ℕ, suc, ◌+◌, take}
+use Rattle.std.proofs.Common.{◌≡◌, suc, ◌+◌, take}
 use Rattle.pool_words.specs.Layout.{base, start, used, rows_of, level}
 use Rattle.pool_words.specs.Rule.{HasRows}
 use Rattle.pool_shard.specs.Looks.{IsSeat, Fills}

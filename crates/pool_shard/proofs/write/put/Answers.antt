@@ -1,10 +1,9 @@
-use Rattle.std.proofs.Common.{◌≡◌, ◌+◌, ◌<◌, ◌≤◌, slice_set, sym, subst, arith}
+use Rattle.std.proofs.Common.{◌+◌, ◌<◌, ◌≤◌, slice_set, sym, subst, arith}
 use Rattle.pool_words.specs.declared.view.Layout.{Layout}
-use Rattle.pool_words.specs.Views.{IsPrivate}
 use Rattle.pool_words.specs.Rule.{Same}
 use Rattle.pool_words.proofs.Places.{base_in}
 use Rattle.pool_words.specs.Layout.{base, start, used, rows_of}
-use Rattle.pool_shard.proofs.Keeping.{Keeps-private, IsSeat-moves}
+use Rattle.pool_shard.proofs.Keeping.{Keeps-private}
 use Rattle.pool_shard.proofs.write.put.Goals as goal
 
 pub store_private-requires-clause-inside : goal.store_private-requires-clause-inside

@@ -1,6 +1,5 @@
-use Rattle.std.proofs.Common.{◌≡◌, ◌*◌, ◌-◌, arith}
-use Rattle.pool_words.specs.Layout.{width, level_at, start}
-use Rattle.pool_words.proofs.Places.{width_pos, width_low, level_next, level_from, start_low, start_is}
+use Rattle.std.proofs.Common.{arith}
+use Rattle.pool_words.proofs.Places.{width_pos, width_low, start_low, start_is}
 use Rattle.pool_shard.proofs.write.start_of.Goals as goal
 
 pub overflow_mul-result : goal.overflow_mul-result

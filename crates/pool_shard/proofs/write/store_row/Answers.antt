@@ -1,9 +1,8 @@
 use Rattle.std.proofs.Common.{◌≡◌, ℕ, suc, ◌+◌, ◌<◌, ◌≤◌, List, [], ◌∷◌, ◌++◌, length, take, set, refl, sym, ap, ◌∙◌, subst, arith, add-one, slice_index}
-use Rattle.std.proofs.lemmas.List.{length-set, take_more}
+use Rattle.std.proofs.lemmas.List.{take_more}
 use Rattle.pool_words.specs.declared.view.Layout.{Layout}
-use Rattle.pool_words.specs.declared.view.View.{View}
-use Rattle.pool_words.specs.Layout.{Row, window, base, start, used, rows_of, IsLayout}
-use Rattle.pool_words.specs.Rule.{Same, IsPool}
+use Rattle.pool_words.specs.Layout.{Row, window, base, IsLayout}
+use Rattle.pool_words.specs.Rule.{Same}
 use Rattle.pool_words.proofs.Windows.{window_more, window_part}
 use Rattle.pool_words.proofs.Places.{base_in}
 use Rattle.pool_shard.proofs.Keeping.{Keeps-trans}

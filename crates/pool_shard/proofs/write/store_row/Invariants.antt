@@ -1,4 +1,4 @@
-use Rattle.std.proofs.Common.{◌≡◌, ℕ, suc, ◌∷◌, length, take}
+use Rattle.std.proofs.Common.{◌≡◌, suc, ◌∷◌, length, take}
 use Rattle.pool_words.specs.Layout.{window}
 use Rattle.pool_shard.specs.Looks.{IsSeat, Keeps}
 use Rattle.pool_shard.proofs.write.store_row.Given as goal

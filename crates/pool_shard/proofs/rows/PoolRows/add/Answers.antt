@@ -1,12 +1,12 @@
-use Rattle.std.proofs.Common.{◌≡◌, ◌⊎◌, inl, inr, ℕ, ◌+◌, ◌-◌, ◌*◌, ◌^◌, ◌<◌, ◌≤◌, List, length, get_or, set, slice_index, refl, sym, ap, ◌∙◌, subst, arith}
+use Rattle.std.proofs.Common.{◌≡◌, inl, inr, ℕ, ◌+◌, ◌-◌, ◌<◌, ◌≤◌, List, length, get_or, set, slice_index, refl, sym, ap, ◌∙◌, subst, arith}
 use Rattle.std.proofs.lemmas.List.{get_or_read}
 use Rattle.pool_words.specs.declared.view.Layout.{Layout}
 use Rattle.pool_words.specs.declared.view.View.{View}
-use Rattle.pool_words.specs.Layout.{Row, half, start, used, shard_of, rows_of, head, level, IsLayout}
+use Rattle.pool_words.specs.Layout.{Row, half, start, used, shard_of, rows_of, head, IsLayout}
 use Rattle.pool_words.specs.Rule.{In, IsPool}
 use Rattle.pool_words.proofs.Members.{In-last, rows_of-In}
 use Rattle.pool_words.proofs.Places.{shard_in, half_is, half_mono}
-use Rattle.pool_shard.specs.Looks.{HasNot, IsPart, IsRows, Adds, Touches}
+use Rattle.pool_shard.specs.Looks.{IsPart, IsRows, Touches}
 use Rattle.pool_shard.specs.Pairs.{Rows, IsAtNumbers}
 use Rattle.pool_shard.proofs.Counting.{IsRows-adds}
 use Rattle.pool_shard.proofs.rows.PoolRows.add.Goals as goal
@@ -91,8 +91,7 @@ returns-then-count-half_of-clause-full c =
     let s = c.args.shard in
     let n = length c.args.key.now in
     let l = shard_here me c.args.self.now p.layout s c.args.key.now c.self.view_is i.seat.layout i.seat.laid c.requires.hash.1 in
-    let x = part_read p.layout v s c.index-count.result.now c.index-taken.result.now p.counts.items p.sums.items i.many_counts i.many_sums l (i.parts s l) c.index-count.ensures c.index-taken.ensures in
-    (
+    let x = part_read p.layout v s c.index-count.result.now c.index-taken.result.now p.counts.items p.sums.items i.many_counts i.many_sums l (i.parts s l) c.index-count.ensures c.index-taken.ensures in (
       refl,
       elim c.then-count-half_of.branch [
         | then-count-half_of-via-then-count-half_of w ↦ as_full me c.args.self.now p.layout s n c.self.view_is i.seat.layout
@@ -182,7 +181,7 @@ invariant_of-self c =
     let y : c.index-taken.result.now ≡ slice_index p.sums.items s = get_or_read p.sums.items s c.index-taken.result.now (let m = i.many_sums in omega arith) c.index-taken.ensures 0 in
     let h = IsRows-adds p.layout p.words.shared.table_id p.seat c.add_row-place.new.seat w.me.0 p.counts.items p.sums.items s r i c.add_row-place.ensures.seat l c.open_slot-slot.ensures.touches c.add_row-place.ensures.adds (c.add_row-place.ensures.slots ∙ c.open_slot-slot.ensures.slots) in
     subst (λ n. IsRows p.layout p.words.shared.table_id c.add_row-place.new.seat (set p.counts.items s (n + 1)) (set p.sums.items s (c.index-taken.result.now + length c.args.key.now + 1))) (sym x)
-        (subst (λ n. IsRows p.layout p.words.shared.table_id c.add_row-place.new.seat (set p.counts.items s (slice_index p.counts.items s + 1)) (set p.sums.items s (n + length c.args.key.now + 1))) (sym y) h)
+    (subst (λ n. IsRows p.layout p.words.shared.table_id c.add_row-place.new.seat (set p.counts.items s (slice_index p.counts.items s + 1)) (set p.sums.items s (n + length c.args.key.now + 1))) (sym y) h)
 
 pub returns-clause-place : goal.returns-clause-place
 returns-clause-place c =

@@ -1,6 +1,6 @@
-use Rattle.std.proofs.Common.{◌≡◌, ◌∙◌, ap, subst, sym, Some, None, List, ℕ, IfSome, IfNone}
+use Rattle.std.proofs.Common.{◌≡◌, subst, sym, Some, IfSome, IfNone}
 use Rattle.type_form.specs.declared.index.Index.{Index}
-use Rattle.type_form.specs.Known.{words_at, IsInjective}
+use Rattle.type_form.specs.Known.{words_at}
 use Rattle.type_form.specs.Words.{index_of}
 use Rattle.type_form.specs.Means.{Grows}
 use Rattle.pool_shard.specs.Pairs.{Rows, known, known_of}

@@ -1,5 +1,5 @@
-use Rattle.std.proofs.Common.{◌≡◌, ◌∙◌, ap, subst, sym, Some, IsSome, List, ℕ}
-use Rattle.type_form.specs.Known.{words_at, IsInjective}
+use Rattle.std.proofs.Common.{◌≡◌, ◌∙◌, ap, subst, sym, Some, IsSome}
+use Rattle.type_form.specs.Known.{words_at}
 use Rattle.type_form.specs.Means.{Grows}
 use Rattle.pool_shard.specs.Pairs.{Rows, known, known_of}
 use Rattle.pool_shard.proofs.Counting.{IsRows-keeps}
