@@ -1,16 +1,56 @@
 -- The counts of the shards, after steps.
-use Rattle.std.proofs.Common.{◌≡◌, ⊎_elim, ℕ, suc, ◌+◌, ◌<◌, ◌≤◌, List, [], ◌∷◌, ◌++◌, length, set, slice_index, sym, ap, ◌∙◌, subst, arith, get_or-set_same, get_or-set_other, length-append}
+use Rattle.std.proofs.Common.{◌≡◌, inl, inr, ⊎_elim, ℕ, suc, ◌+◌, ◌*◌, ◌^◌, ◌<◌, ◌≤◌, List, [], ◌∷◌, ◌++◌, length, set, slice_index, sym, ap, ◌∙◌, subst, arith, get_or-set_same, get_or-set_other, length-append}
 use Rattle.std.proofs.lemmas.Bool.{cases_eq}
 use Rattle.std.proofs.lemmas.List.{length-set}
 use Rattle.atomic_table.specs.Seated.{TableId}
 use Rattle.atomic_table.specs.declared.shared.Seat.{Seat}
 use Rattle.pool_words.specs.declared.view.Layout.{Layout}
 use Rattle.pool_words.specs.declared.view.View.{View}
-use Rattle.pool_words.specs.Layout.{Row, used, rows_of, head, level}
-use Rattle.pool_words.specs.Rule.{In, HasRows}
-use Rattle.pool_words.proofs.Members.{used-push}
+use Rattle.pool_words.specs.Layout.{Row, half, used, start, rows_of, head, level, IsLayout}
+use Rattle.pool_words.specs.Rule.{In, HasRows, Extends, IsPool}
+use Rattle.pool_words.proofs.Members.{used-push, used-append, rows_of-append}
+use Rattle.pool_words.proofs.Places.{half_is, half_mono}
+use Rattle.pool_shard.specs.Pairs.{Rows, GoesOn, IsAtNumbers, IsFullShard}
 use Rattle.pool_shard.specs.Looks.{IsSeat, Keeps, Touches, Adds, IsReadyShard, IsPart, IsRows}
 use Rattle.pool_shard.proofs.Publishing.{IsReady-keeps}
+
+-- a shard has at most half of the slots of its last level of rows, and its words fit
+pub most_rows : (z : Layout) (v : View) (s : ℕ) → IsPool z v.words v.log → s < z.shards → (length (rows_of z s v.log) ≤ half z.top) × (start z + used (rows_of z s v.log) ≤ z.size)
+most_rows z v s p l =
+    let b = p.shard s l in
+    let h = b.halves (head z v.words s) b.head_in in
+    let m = half_mono (head z v.words s) z.top b.head_in in
+    let e = b.live in
+    (omega arith, b.fits)
+
+pub GoesOn-of : (p q : Rows) → q.id ≡ p.id → q.view.layout ≡ p.view.layout → IsLayout q.view.layout → Extends p.view.log q.view.log → IsPool q.view.layout q.view.words q.view.log → GoesOn p q
+GoesOn-of p q e f laid x pool = record {
+  id = e;
+  layout = f;
+  laid = laid;
+  log = x;
+  most = λ s l. subst (λ n. length (rows_of q.view.layout s q.view.log) ≤ n) (half_is q.view.layout.top) (most_rows q.view.layout q.view s pool l).0;
+}
+
+-- the same for rows whose seat is at a layout of their own
+pub GoesOn-seat : {S : Type 0} (z : Layout) (t : TableId) (q r : Seat S View) (p : Rows) → record { id = q.table_id; view = q.me.0 } ≡ p → IsSeat z t q → IsSeat z t r → Extends q.me.0.log r.me.0.log → GoesOn p (record { id = r.table_id; view = r.me.0 })
+GoesOn-seat {S} z t q r p e a b x = subst (λ (y : Rows). GoesOn y (record { id = r.table_id; view = r.me.0 })) e
+    (GoesOn-of (record { id = q.table_id; view = q.me.0 }) (record { id = r.table_id; view = r.me.0 }) (b.of ∙ sym a.of) (b.layout ∙ sym a.layout) (subst IsLayout (sym b.layout) b.laid) x (subst (λ y. IsPool y r.me.0.words r.me.0.log) (sym b.layout) b.pool))
+
+-- a shard that is full stays so
+pub full_later : (p q : Rows) (s : ℕ) → GoesOn p q → s < p.view.layout.shards → IsFullShard p.view.layout p.view.log s → IsFullShard q.view.layout q.view.log s
+full_later p q s g l f =
+    let z : Layout = q.view.layout in
+    let e : rows_of q.view.layout s q.view.log ≡ rows_of q.view.layout s p.view.log ++ rows_of q.view.layout s g.log.0 = ap (rows_of q.view.layout s) g.log.1 ∙ rows_of-append q.view.layout s p.view.log g.log.0 in
+    let n : length (rows_of q.view.layout s q.view.log) ≡ length (rows_of q.view.layout s p.view.log) + length (rows_of q.view.layout s g.log.0) = ap length e ∙ length-append (rows_of q.view.layout s p.view.log) (rows_of q.view.layout s g.log.0) in
+    let u : used (rows_of q.view.layout s q.view.log) ≡ used (rows_of q.view.layout s p.view.log) + used (rows_of q.view.layout s g.log.0) = ap used e ∙ used-append (rows_of q.view.layout s p.view.log) (rows_of q.view.layout s g.log.0) in
+    let m = g.most s (subst (λ (y : Layout). s < y.shards) (sym g.layout) l) in
+    let f' : IsFullShard q.view.layout p.view.log s = subst (λ y. IsFullShard y p.view.log s) (sym g.layout) f in
+    ⊎_elim (λ a. inl (let t : ℕ = 32 * 2 ^ q.view.layout.top in let a' : length (rows_of q.view.layout s p.view.log) ≡ t = a in let m' : length (rows_of q.view.layout s q.view.log) ≤ t = m in let r : length (rows_of q.view.layout s q.view.log) ≡ t = omega arith in r)) (λ b. inr (omega arith)) f'
+
+-- a shard at the numbers of a key is full
+pub full_at : (z : Layout) (log : List Row) (s n : ℕ) → n ≤ 64 → IsAtNumbers z log s n → IsFullShard z log s
+full_at z log s n h f = ⊎_elim (λ a. inl a) (λ b. inr (omega arith)) f
 
 pub IsRows-keeps : {S : Type 0} (z : Layout) (t : TableId) (q r : Seat S View) (counts sums : List ℕ) → IsRows z t q counts sums → IsSeat z t r → Keeps q.me.0 r.me.0 → r.me.1 ≡ q.me.1 → IsRows z t r counts sums
 IsRows-keeps z t q r counts sums h seat k slots = record {

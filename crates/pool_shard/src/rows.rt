@@ -4,7 +4,7 @@ ghost use Rattle.type_form.specs.Known.{words_at, IsInjective};
 ghost use Rattle.type_form.specs.Means.{Grows};
 ghost use Rattle.pool_words.specs.Layout.{hash_of, shard_of, head, level, level_at, IsLayout};
 ghost use Rattle.pool_words.specs.Rule.{In, Extends, IsPool};
-ghost use Rattle.pool_shard.specs.Pairs.{known, IsAtNumbers};
+ghost use Rattle.pool_shard.specs.Pairs.{known, GoesOn, IsAtNumbers};
 ghost use Rattle.pool_shard.specs.Looks.{IsSpot, HasNot};
 
 use crate::add::{add_row, half_of, open_slot};
@@ -100,7 +100,7 @@ impl PoolRows {
     /// The index of a key of 1 to 64 words, where it is known. Takes no memory and waits for no
     /// thread.
     pub fn find(&mut self, key: &[u64]) -> Option<Index>
-        ensures table { (self.new.id ≡ self.old.id) × (self.new.view.layout ≡ self.old.view.layout) }
+        ensures rows { GoesOn self.old self.new }
         ensures grows { Grows (known self.old) (known self.new) }
         ensures agrees { IsInjective (known self.new) }
         ensures found { IfSome result (λ i. words_at (known self.new) i ≡ Some key.now) }
@@ -115,7 +115,7 @@ impl PoolRows {
     /// The key of a known index. Takes no memory and waits for no thread.
     pub fn key_into(&mut self, i: Index, into: &mut KeyBuf)
         requires { IsSome (words_at (known self.old) i) }
-        ensures table { (self.new.id ≡ self.old.id) × (self.new.view.layout ≡ self.old.view.layout) }
+        ensures rows { GoesOn self.old self.new }
         ensures grows { Grows (known self.old) (known self.new) }
         ensures agrees { IsInjective (known self.new) }
         ensures words { words_at (known self.old) i ≡ Some into.new }
@@ -133,7 +133,7 @@ impl PoolRows {
     pub fn intern(&mut self, key: &[u64]) -> Result<Index, Full>
         requires some { 0 < length key.now }
         requires few { length key.now ≤ 64 }
-        ensures table { (self.new.id ≡ self.old.id) × (self.new.view.layout ≡ self.old.view.layout) }
+        ensures rows { GoesOn self.old self.new }
         ensures grows { Grows (known self.old) (known self.new) }
         ensures agrees { IsInjective (known self.new) }
         ensures place { IfOk result (λ i. words_at (known self.new) i ≡ Some key.now) }

@@ -3,7 +3,7 @@ use Rattle.std.proofs.Common.{◌≡◌, ◌⊎◌, inl, inr, ⊎_elim, ℕ, zer
 use Rattle.std.proofs.lemmas.Bool.{eqb-true, eq-eqb, ne_eqb}
 use Rattle.std.proofs.lemmas.List.{append-nil, append_assoc, take-append-le}
 use Rattle.std.proofs.lemmas.List.Elements.{filter-append}
-use Rattle.std.proofs.lemmas.List.Sums.{sum_by_push, sum_by-cons}
+use Rattle.std.proofs.lemmas.List.Sums.{sum_by_push, sum_by-cons, sum_by-append}
 use Rattle.std.specs.List.{filter}
 use Rattle.pool_words.specs.declared.view.Layout.{Layout}
 use Rattle.pool_words.specs.Layout.{Row, rows_of, shard_of, used}
@@ -114,3 +114,7 @@ used-cons r rows = sum_by-cons (λ (q : Row). length q.1 + 1) r rows
 pub Laid-push : (place : ℕ) (rows : List Row) (r : Row) → Laid place rows → r.0 ≡ place + used rows → Laid place (rows ++ r ∷ [])
 Laid-push place [] r h e = let u = used-nil in (omega arith, tt)
 Laid-push place (q ∷ rows) r h e = let u = used-cons q rows in (h.0, Laid-push (place + (length q.1 + 1)) rows r h.1 (omega arith))
+
+pub used-append : (rows more : List Row) → used (rows ++ more) ≡ used rows + used more
+unfolding used
+used-append rows more = sum_by-append (λ (q : Row). length q.1 + 1) rows more

@@ -2,13 +2,13 @@ use Rattle.std.proofs.Common.{◌≡◌, inl, inr, ℕ, ◌+◌, ◌-◌, ◌<�
 use Rattle.std.proofs.lemmas.List.{get_or_read}
 use Rattle.pool_words.specs.declared.view.Layout.{Layout}
 use Rattle.pool_words.specs.declared.view.View.{View}
-use Rattle.pool_words.specs.Layout.{Row, half, start, used, shard_of, rows_of, head, IsLayout}
+use Rattle.pool_words.specs.Layout.{Row, half, start, used, shard_of, rows_of, IsLayout}
 use Rattle.pool_words.specs.Rule.{In, IsPool}
 use Rattle.pool_words.proofs.Members.{In-last, rows_of-In}
-use Rattle.pool_words.proofs.Places.{shard_in, half_is, half_mono}
+use Rattle.pool_words.proofs.Places.{shard_in, half_is}
 use Rattle.pool_shard.specs.Looks.{IsPart, IsRows, Touches}
 use Rattle.pool_shard.specs.Pairs.{Rows, IsAtNumbers}
-use Rattle.pool_shard.proofs.Counting.{IsRows-adds}
+use Rattle.pool_shard.proofs.Counting.{most_rows, IsRows-adds}
 use Rattle.pool_shard.proofs.rows.PoolRows.add.Goals as goal
 use Rattle.pool_shard.proofs.rows.PoolRows.add.Goals.{then-count-half_of-via-then-count-half_of, then-count-half_of-via-else-count-half_of+then-left-key}
 
@@ -20,15 +20,6 @@ shard_here : (p q : Rows) (z : Layout) (s : ℕ) (key : List ℕ) → p ≡ q �
 shard_here p q z s key e f l g =
     let h : s ≡ shard_of z key = subst (λ y. s ≡ shard_of y key) (same_layout p q z e f) g in
     subst (λ t. t < z.shards) (sym h) (shard_in z key l)
-
--- a shard has at most half of the slots of its last level of rows, and its words fit
-most_rows : (z : Layout) (v : View) (s : ℕ) → IsPool z v.words v.log → s < z.shards → (length (rows_of z s v.log) ≤ half z.top) × (start z + used (rows_of z s v.log) ≤ z.size)
-most_rows z v s p l =
-    let b = p.shard s l in
-    let h = b.halves (head z v.words s) b.head_in in
-    let m = half_mono (head z v.words s) z.top b.head_in in
-    let e = b.live in
-    (omega arith, b.fits)
 
 pub index-count-requires : goal.index-count-requires
 index-count-requires c =

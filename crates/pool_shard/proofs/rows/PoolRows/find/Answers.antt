@@ -4,7 +4,7 @@ use Rattle.type_form.specs.Known.{words_at}
 use Rattle.type_form.specs.Words.{index_of}
 use Rattle.type_form.specs.Means.{Grows}
 use Rattle.pool_shard.specs.Pairs.{Rows, known, known_of}
-use Rattle.pool_shard.proofs.Counting.{IsRows-keeps}
+use Rattle.pool_shard.proofs.Counting.{IsRows-keeps, GoesOn-seat}
 use Rattle.pool_shard.proofs.Knowing.{known_in, pool_known, pool_injective, known_grows}
 use Rattle.pool_shard.proofs.rows.PoolRows.find.Goals as goal
 use Rattle.pool_shard.proofs.rows.PoolRows.find.Goals.{in-Some, in-None}
@@ -39,3 +39,8 @@ returns-clause-absent c =
       | in-Some b ↦ subst (λ r. IfNone r P) (sym b.result-is) tt
       | in-None b ↦ subst (λ r. IfNone r P) (sym b.result-is) (λ i e. b.in-None.ensures.absent i.0 (known_in u.log i c.args.key.now (subst (λ (p : Rows). words_at (known p) i ≡ Some c.args.key.now) (sym c.self.view_is) e)))
     ]
+
+pub returns-clause-rows : goal.returns-clause-rows
+returns-clause-rows c =
+    let p = c.self.inside in
+    GoesOn-seat p.layout p.words.shared.table_id p.seat c.find_by.new.seat c.args.self.now c.self.view_is c.self.invariant.seat c.find_by.ensures.seat c.find_by.ensures.keeps.later.grows

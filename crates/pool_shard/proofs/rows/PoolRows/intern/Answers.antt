@@ -5,13 +5,13 @@ use Rattle.type_form.specs.Words.{index_of}
 use Rattle.type_form.specs.Means.{Grows}
 use Rattle.pool_words.specs.declared.view.Layout.{Layout}
 use Rattle.pool_words.specs.declared.view.View.{View}
-use Rattle.pool_words.specs.Layout.{shard_of, rows_of, head, base}
+use Rattle.pool_words.specs.Layout.{shard_of, rows_of, head, base, IsLayout}
 use Rattle.pool_words.specs.Rule.{In}
 use Rattle.pool_words.proofs.Members.{In-rows_of, rows_of-In, Extends-trans}
 use Rattle.pool_shard.specs.Looks.{Keeps, HasNot}
-use Rattle.pool_shard.specs.Pairs.{Rows, known, known_of}
+use Rattle.pool_shard.specs.Pairs.{Rows, GoesOn, known, known_of}
 use Rattle.pool_shard.proofs.Keeping.{Keeps-trans}
-use Rattle.pool_shard.proofs.Counting.{IsRows-keeps}
+use Rattle.pool_shard.proofs.Counting.{IsRows-keeps, GoesOn-seat, GoesOn-of}
 use Rattle.pool_shard.proofs.Knowing.{known_in, pool_known, pool_injective, known_grows}
 use Rattle.pool_shard.proofs.rows.PoolRows.intern.Goals as goal
 
@@ -99,3 +99,20 @@ pub returns-in-Err-clause-absent : goal.returns-in-Err-clause-absent
 returns-in-Err-clause-absent c =
     let n = c.add.new.self in
     if_err c.add.result (λ e. HasNot n.view.log c.args.key.now) (λ e. (i : Index) → words_at (known n) i ≡ Some c.args.key.now → ⊥) (λ e none i h. none i.0 (known_in n.view.log i c.args.key.now h)) c.add.ensures.absent
+
+pub returns-in-Ok-clause-rows : goal.returns-in-Ok-clause-rows
+returns-in-Ok-clause-rows c =
+    let p = c.self.inside in
+    let x = Extends-trans p.seat.me.0.log c.look-at.new.seat.me.0.log c.probe.new.seat.me.0.log c.look-at.ensures.keeps.later.grows c.probe.ensures.keeps.later.grows in
+    GoesOn-seat p.layout p.words.shared.table_id p.seat c.probe.new.seat c.args.self.now c.self.view_is c.self.invariant.seat c.probe.ensures.seat x
+
+pub returns-in-Err-clause-rows : goal.returns-in-Err-clause-rows
+returns-in-Err-clause-rows c =
+    let p = c.self.inside in
+    let n = c.add.new.self in
+    let me : Rows = record { id = p.seat.table_id; view = p.seat.me.0 } in
+    let a = c.self.invariant.seat in
+    let b = c.probe.ensures.seat in
+    let x = Extends-trans p.seat.me.0.log c.look-at.new.seat.me.0.log c.probe.new.seat.me.0.log c.look-at.ensures.keeps.later.grows c.probe.ensures.keeps.later.grows in
+    let y = Extends-trans p.seat.me.0.log c.probe.new.seat.me.0.log n.view.log x c.add.ensures.grows.0 in
+    subst (λ (q : Rows). GoesOn q n) c.self.view_is (GoesOn-of me n (c.add.ensures.table.0 ∙ (b.of ∙ sym a.of)) (c.add.ensures.table.1 ∙ (b.layout ∙ sym a.layout)) (subst IsLayout (sym (c.add.ensures.table.1 ∙ b.layout)) b.laid) y c.add.ensures.grows.1)

@@ -2,7 +2,7 @@ use Rattle.std.proofs.Common.{◌≡◌, ◌∙◌, ap, subst, sym, Some, IsSome
 use Rattle.type_form.specs.Known.{words_at}
 use Rattle.type_form.specs.Means.{Grows}
 use Rattle.pool_shard.specs.Pairs.{Rows, known, known_of}
-use Rattle.pool_shard.proofs.Counting.{IsRows-keeps}
+use Rattle.pool_shard.proofs.Counting.{IsRows-keeps, GoesOn-seat}
 use Rattle.pool_shard.proofs.Knowing.{known_in, known_some, pool_injective, known_grows}
 use Rattle.pool_shard.proofs.rows.PoolRows.key_into.Goals as goal
 
@@ -30,3 +30,8 @@ returns-clause-words c =
     let u = c.self.inside.seat.me.0 in
     let r = known_some u.log c.args.i (subst (λ (p : Rows). IsSome (words_at (known p) c.args.i)) (sym c.self.view_is) c.requires) in
     subst (λ (p : Rows). words_at (known p) c.args.i ≡ Some c.read_row.new.into) c.self.view_is (r.1 ∙ ap Some (sym (c.read_row.ensures.key r.0 (known_in u.log c.args.i r.0 r.1))))
+
+pub returns-clause-rows : goal.returns-clause-rows
+returns-clause-rows c =
+    let p = c.self.inside in
+    GoesOn-seat p.layout p.words.shared.table_id p.seat c.read_row.new.seat c.args.self.now c.self.view_is c.self.invariant.seat c.read_row.ensures.seat c.read_row.ensures.keeps.later.grows
