@@ -1,0 +1,87 @@
+// The seat that has a pool's rows alone, for one thread.
+ghost use Rattle.std.specs.Prelude.{◌≡◌, ℕ, ◌<◌, ◌≤◌, length, IsSome, IfSome, IfNone, IfOk, IfErr, Some};
+ghost use Rattle.type_form.specs.Known.{words_at, IsInjective};
+ghost use Rattle.type_form.specs.Means.{Grows};
+ghost use Rattle.type_form.specs.Counts.{Explains};
+ghost use Rattle.pool_shard.specs.Pairs.{known, GoesOn};
+ghost use Rattle.pool_seat.specs.Seats.{pairs, IsFullFor};
+
+use pool_shard::PoolRows;
+use std::marker::Model;
+use type_form::{Index, InternFault, Interner, KeyBuf, Keys};
+
+/// An interner over a pool's rows. It takes no lock and no memory, and waits for no thread.
+#[derive(Drop)]
+pub struct SoleSeat {
+    rows: PoolRows,
+    fulls: u64,
+}
+
+impl Model for SoleSeat {
+    ghost use Rattle.pool_seat.specs.Seats.{Sole, KeepsFull};
+
+    ghost Value = { Sole };
+
+    ghost view = { λ s. record { rows = s.rows; fulls = s.fulls } };
+
+    ghost invariant = { λ s. KeepsFull s.rows s.fulls };
+}
+
+impl SoleSeat {
+    /// A seat at the rows, which has answered no Full.
+    pub fn new(rows: PoolRows) -> SoleSeat
+        ensures rows { result.rows ≡ rows }
+        ensures fulls { result.fulls ≡ 0 }
+    {
+        SoleSeat { rows, fulls: 0 }
+    }
+
+    /// The rows, which know all that the seat knew.
+    pub fn into_rows(self) -> PoolRows
+        ensures { result ≡ self.rows }
+    {
+        let SoleSeat { rows, fulls: _ } = self;
+        rows
+    }
+}
+
+impl Keys for SoleSeat {
+    ghost known = { pairs };
+
+    ghost home = { λ s. s.rows.id.views_name };
+
+    fn find(&mut self, key: &[u64]) -> Option<Index> {
+        self.rows.find(key)
+    }
+
+    fn key_into(&mut self, i: Index, into: &mut KeyBuf) {
+        self.rows.key_into(i, into);
+    }
+}
+
+impl Interner for SoleSeat {
+    ghost fulls = { λ s. s.fulls };
+
+    /// The answer Full comes exactly where the key's shard is at its numbers and the key is none of
+    /// its rows.
+    fn intern(&mut self, key: &[u64]) -> Result<Index, InternFault>
+        requires some { 0 < length key.now }
+        requires few { length key.now ≤ 64 }
+        ensures grows { Grows (pairs self.old) (pairs self.new) }
+        ensures agrees { IsInjective (pairs self.new) }
+        ensures home { self.new.rows.id.views_name ≡ self.old.rows.id.views_name }
+        ensures place { IfOk result (λ i. words_at (pairs self.new) i ≡ Some key.now) }
+        ensures counted { self.old.fulls ≤ self.new.fulls }
+        ensures fault { IfErr result (Explains self.old.fulls self.new.fulls) }
+        ensures rows { GoesOn self.old.rows self.new.rows }
+        ensures full { IfErr result (IsFullFor self.new.rows key.now) }
+    {
+        match self.rows.intern(key) {
+            Ok(i) => Ok(i),
+            Err(full) => {
+                self.fulls = self.fulls.saturating_add(1);
+                Err(InternFault::Full { shard: full.shard })
+            }
+        }
+    }
+}

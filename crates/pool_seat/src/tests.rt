@@ -1,0 +1,37 @@
+// A sole seat used as an interner, up to its Full answer.
+ghost use Rattle.std.specs.Prelude.{◌<◌, ◌≤◌, length};
+
+use crate::SoleSeat;
+use pool_shard::PoolRows;
+use std::test::Fail;
+use type_form::{Index, InternFault, Interner, KeyBuf, Keys};
+
+/// Interns a key through the trait alone.
+fn twice<I: Interner>(key: &[u64], p: &mut I) -> Result<bool, InternFault>
+    requires some { 0 < length key.now }
+    requires few { length key.now ≤ 64 }
+{
+    let first = p.intern(key)?;
+    let again = p.intern(key)?;
+    Ok(first == again)
+}
+
+#[test]
+fn interns_until_it_is_full(rt: HostRuntime) -> Result<(), Fail> {
+    let rows = PoolRows::open(rt.alloc(), 1, 1024)?;
+    let mut seat = SoleSeat::new(rows);
+    for n in 0..64u64 {
+        assert_eq!(rt; twice(&[n, 1], &mut seat), Ok(true));
+    }
+    assert_eq!(rt; seat.intern(&[64, 1]), Err(InternFault::Full { shard: 0 }));
+    let mut into = KeyBuf::new();
+    let Some(place) = seat.find(&[63, 1]) else {
+        panic!(rt; "a known key was not found")
+    };
+    assert_eq!(rt; place, Index(382));
+    seat.key_into(place, &mut into);
+    assert_eq!(rt; into.as_slice(), [63, 1].as_slice());
+    let mut rows = seat.into_rows();
+    assert_eq!(rt; rows.find(&[0, 1]), Some(Index(193)));
+    Ok(())
+}

@@ -1,0 +1,12 @@
+use Rattle.std.proofs.Common.{◌≡◌, ℕ, ◌<◌, List, slice_index}
+use Rattle.pool_words.specs.Rule.{In}
+use Rattle.pool_shard.specs.Looks.{IsSeat, Keeps}
+use Rattle.pool_shard.proofs.look.row_is.Given as goal
+
+abbrev pub invariant-loop-i : goal.invariant-loop-i
+invariant-loop-i l = record {
+  seat : IsSeat l.layout l.words.shared.table_id l.seat;
+  keeps : Keeps l.fn.seat.me.0 l.seat.me.0;
+  slots : l.seat.me.1 ≡ l.fn.seat.me.1;
+  same : (ws : List ℕ) → In (l.place, ws) l.fn.seat.me.0.log → (k : ℕ) → k < l.i → slice_index ws k ≡ slice_index l.key k;
+}

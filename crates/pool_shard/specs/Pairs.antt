@@ -1,0 +1,39 @@
+-- The pairs of index and key that rows know, and when a shard takes no further row.
+use Rattle.std.specs.Prelude.{◌≡◌, ℕ, ◌+◌, ◌*◌, ◌^◌, ◌<◌, ◌≤◌, ◌⊎◌, List, [], ◌∷◌, length}
+use Rattle.atomic_table.specs.Seated.{TableId}
+use Rattle.type_form.specs.Known.{Known}
+use Rattle.type_form.specs.Words.{index_of}
+use Rattle.pool_words.specs.declared.view.Layout.{Layout}
+use Rattle.pool_words.specs.declared.view.View.{View}
+use Rattle.pool_words.specs.Layout.{Row, used, start, rows_of, IsLayout}
+use Rattle.pool_words.specs.Rule.{Extends}
+
+-- the published rows as pairs of index and key
+abbrev pub known_of : List Row → Known
+known_of [] = []
+known_of (r ∷ log) = (index_of r.0, r.1) ∷ known_of log
+
+-- what contracts see of a pool's rows: which table they are, and what its one seat knows
+pub record Rows : Type 0 where
+  pub id : TableId
+  pub view : View
+
+-- the pairs that the rows know
+abbrev pub known : Rows → Known
+known p = known_of p.view.log
+
+-- The shard's rows are at the numbers: there are as many as half of the slots of its last level, or the words of one more row with a key of this length don't fit
+abbrev pub IsAtNumbers : Layout → List Row → ℕ → ℕ → Type 0
+IsAtNumbers z log s n = (length (rows_of z s log) ≡ 32 * 2 ^ z.top) ⊎ (z.size < start z + used (rows_of z s log) + (n + 1))
+
+-- what every call on the rows keeps: the table and its layout, and every row. A shard has at most as many rows as half of the slots of its last level
+pub record GoesOn (p q : Rows) : Type 0 where
+  pub id : q.id ≡ p.id
+  pub layout : q.view.layout ≡ p.view.layout
+  pub laid : IsLayout q.view.layout
+  pub log : Extends p.view.log q.view.log
+  pub most : (s : ℕ) → s < q.view.layout.shards → length (rows_of q.view.layout s q.view.log) ≤ 32 * 2 ^ q.view.layout.top
+
+-- The shard is full: it has that many rows, or they leave fewer than 65 words
+abbrev pub IsFullShard : Layout → List Row → ℕ → Type 0
+IsFullShard z log s = (length (rows_of z s log) ≡ 32 * 2 ^ z.top) ⊎ (z.size < start z + used (rows_of z s log) + 65)

@@ -1,0 +1,69 @@
+// A pool's layout, what a seat knows of the pool, and the rule.
+use atomic_table::{Play, Seat, Table, TableRule};
+use std::alloc::Global;
+use std::collections::LinkedList;
+
+/// How the words of a pool are laid out.
+#[derive(Clone, Copy, Debug)]
+pub struct Layout {
+    /// The number of shards.
+    pub shards: usize,
+    /// The words of a shard.
+    pub size: usize,
+    /// The last level of a shard.
+    pub top: usize,
+    /// The words of all shards, and those that are left over.
+    pub words: usize,
+}
+
+/// What a seat knows. No value of it is made.
+pub struct View {
+    pub layout: Layout,
+    /// The words as they were at the seat's last step.
+    pub words: LinkedList<u64>,
+    /// The rows that were published by then, each with its place and its key.
+    pub log: LinkedList<(u64, LinkedList<u64>)>,
+    /// The shards whose writer's part the seat has.
+    pub writes: LinkedList<u64>,
+}
+
+/// The rule of the pool's words.
+pub struct PoolRule;
+
+impl TableRule<(), View, Layout> for PoolRule {
+    ghost use Rattle.pool_words.specs.Views.{Holds, first_view};
+
+    ghost holds = { λ z. Holds z };
+
+    ghost first = { first_view };
+}
+
+pub(crate) struct Loads;
+
+impl Play<(), View> for Loads {
+    ghost use Rattle.pool_words.specs.Views.{loaded};
+
+    ghost then = { loaded };
+}
+
+pub(crate) struct Stores;
+
+impl Play<(), View> for Stores {
+    ghost use Rattle.pool_words.specs.Views.{stored};
+
+    ghost then = { stored };
+}
+
+pub(crate) struct Publishes;
+
+impl Play<(), View> for Publishes {
+    ghost use Rattle.pool_words.specs.Views.{published};
+
+    ghost then = { published };
+}
+
+/// The words of a pool, which its seats share.
+pub type Words = Table<(), View, Layout, PoolRule, Global>;
+
+/// A seat at the words.
+pub type WordSeat = Seat<(), View>;
