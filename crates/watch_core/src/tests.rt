@@ -154,3 +154,34 @@ fn keeps_its_limits(rt: HostRuntime) -> Result<(), Fail> {
     session.set_file(FilePath::of(alloc, "a")?, vec![in alloc; b' ']?)?;
     Ok(())
 }
+
+#[test]
+fn tells_of_names_before_the_form(rt: HostRuntime) -> Result<(), Fail> {
+    let alloc = rt.alloc();
+    let mut session = session(alloc)?;
+    for (text, code, col) in [
+        ("const a = b;", DiagCode::Undeclared, 11),
+        ("const E = enum { a, a };", DiagCode::NameUsed, 21),
+        ("fn f(x: u32) void {}", DiagCode::NeverUsed, 6),
+        (
+            "fn f() u8 { var x: u8 = 1; return x; }",
+            DiagCode::NeverChanged,
+            17,
+        ),
+        ("fn f() void { break; }", DiagCode::NothingToLeave, 15),
+    ] {
+        session.set_file(
+            FilePath::of(alloc, "m.zig")?,
+            Vec::from_slice(alloc, text.as_bytes())?,
+        )?;
+        let Update::Errors { lines, .. } = session.update_sole(alloc) else {
+            return Err(Fail::from(text));
+        };
+        let found = lines
+            .as_slice()
+            .first()
+            .map(|found| (found.code, found.line, found.col));
+        assert_eq!(rt; found, Some((code, 1, col)), "{text}");
+    }
+    Ok(())
+}
