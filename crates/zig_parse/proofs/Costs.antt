@@ -184,6 +184,7 @@ rule_at look apart (part.Rule q) r h = by (apart && is_braced q) h
     read : (b : Bool) → reading b ≡ move.Rule r → ⊥
     read true e = cc
     read false e = cc
+
     by : (b : Bool) → (if b then reading (is_kind look.kind LeftBrace) else move.Rule q) ≡ move.Rule r → part.Rule q ≡ part.Rule r
     by true e = absurd (read (is_kind look.kind LeftBrace) e)
     by false e = (let same : q ≡ r = cc in ap part.Rule same)
@@ -205,6 +206,7 @@ group_at look apart (part.Rule q) g h = absurd (by (apart && is_braced q) h)
     read : (b : Bool) → reading b ≡ move.Group g → ⊥
     read true e = cc
     read false e = cc
+
     by : (b : Bool) → (if b then reading (is_kind look.kind LeftBrace) else move.Rule q) ≡ move.Group g → ⊥
     by true e = read (is_kind look.kind LeftBrace) e
     by false e = cc
@@ -229,8 +231,8 @@ front_work n is p f =
     let same : min n f.i.level ≡ n = (let l = f.level in omega arith) in
     let whole : work n is ≡ (n - f.i.level) + cost_of f.i.part + (if may_be_nothing f.i.part then work (min n f.i.level) f.is else 0) = ap (work n) f.items in
     let known : (n - f.i.level) + cost_of f.i.part + (if may_be_nothing f.i.part then work (min n f.i.level) f.is else 0) ≡ 0 + cost_of p + (if may_be_nothing p then work n f.is else 0) =
-        ap (λ (k : ℕ). k + cost_of f.i.part + (if may_be_nothing f.i.part then work (min n f.i.level) f.is else 0)) none ∙ ap (λ (k : ℕ). 0 + cost_of f.i.part + (if may_be_nothing f.i.part then work k f.is else 0)) same
-        ∙ ap (λ (q : Part). 0 + cost_of q + (if may_be_nothing q then work n f.is else 0)) f.part_is in
+    ap (λ (k : ℕ). k + cost_of f.i.part + (if may_be_nothing f.i.part then work (min n f.i.level) f.is else 0)) none ∙ ap (λ (k : ℕ). 0 + cost_of f.i.part + (if may_be_nothing f.i.part then work k f.is else 0)) same
+    ∙ ap (λ (q : Part). 0 + cost_of q + (if may_be_nothing q then work n f.is else 0)) f.part_is in
     omega (arith, whole, known)
 
 first_length : (f : Frame) (fs : List Frame) → length (with_first f fs) ≡ length fs
@@ -307,16 +309,16 @@ moving_by_less look at t (move.Rule r) h =
     let whole = rule_whole r t f in
     subst (λ (l : List (List Part)). total_work (spread at (Some r) l t) ≤ work_of t) (sym (choices_at look (rule_rows r)))
     (spread_less (cost_of_rule r) false at (Some r) rows t (open_fits (cost_of_rule r) false (look.kind ∷ look.next ∷ []) (rule_rows r) (rule_costs r)) (omega arith)
-      (λ ps some. (rule_work r ps t (length t.frames) f refl some, rule_work r ps (at_choice at t) (length t.frames) f refl some))
-      (λ ps l some. (let w = rule_work r ps t (length t.frames) f refl (or_true (has_some ps) some) in omega arith)))
+    (λ ps some. (rule_work r ps t (length t.frames) f refl some, rule_work r ps (at_choice at t) (length t.frames) f refl some))
+    (λ ps l some. (let w = rule_work r ps t (length t.frames) f refl (or_true (has_some ps) some) in omega arith)))
 moving_by_less look at t (move.Group g) h =
     let f = group_front_at look true (length t.frames) t.items g h in
     let rows = open_at (look.kind ∷ look.next ∷ []) (group_rows g) in
     let whole = front_work (length t.frames) t.items (part.Group g) f in
     subst (λ (l : List (List Part)). total_work (spread at None l t) ≤ work_of t) (sym (choices_at look (group_rows g)))
     (spread_less (cost_of_group g) (may_be_empty g) at None rows t (open_fits (cost_of_group g) (may_be_empty g) (look.kind ∷ look.next ∷ []) (group_rows g) (group_costs g)) (omega (arith, whole))
-      (λ ps some. (group_work g ps t f ∙ only_front (has_some ps) (front_cost ps) (work (length t.frames) f.is) some, group_work g ps (at_choice at t) f ∙ only_front (has_some ps) (front_cost ps) (work (length t.frames) f.is) some))
-      (λ ps l some. (let w = less_by (has_some ps) (may_be_empty g) (front_cost ps) (cost_of_group g) (work (length t.frames) f.is) (work_of (replaced None ps t)) l some (group_work g ps t f) in omega (arith, whole))))
+    (λ ps some. (group_work g ps t f ∙ only_front (has_some ps) (front_cost ps) (work (length t.frames) f.is) some, group_work g ps (at_choice at t) f ∙ only_front (has_some ps) (front_cost ps) (work (length t.frames) f.is) some))
+    (λ ps l some. (let w = less_by (has_some ps) (may_be_empty g) (front_cost ps) (cost_of_group g) (work (length t.frames) f.is) (work_of (replaced None ps t)) l some (group_work g ps t f) in omega (arith, whole))))
 
 pub moving_less : (look : Look) (at : ℕ) (t : Thread) → total_work (moving look at t) ≤ work_of t
 unfolding moving
@@ -472,7 +474,7 @@ ready_next tokens look second g next whole e k h =
     let some = enough_for g.thread in
     let one : moves_for g.thread ≡ suc (moves_for g.thread - 1) = omega arith in
     let step : ready (moves_for g.thread) tokens look second g ≡ ready (moves_for g.thread - 1) tokens look second (moved tokens look second g) =
-        ap (λ (n : ℕ). ready n tokens look second g) one ∙ ready_none (moves_for g.thread - 1) tokens look second g (sym k) in
+    ap (λ (n : ℕ). ready n tokens look second g) one ∙ ready_none (moves_for g.thread - 1) tokens look second g (sym k) in
     ap (λ (x : Grown). ready (moves_for x.thread) tokens look second x) e
     ∙ ready_enough (moves_for (moved tokens look second g).thread) (moves_for g.thread - 1) tokens look second (moved tokens look second g) (enough_for (moved tokens look second g).thread) (omega arith) ∙ sym step ∙ h
 

@@ -1,5 +1,5 @@
 -- One step down a list, for what is defined by recursion on it.
-use Rattle.std.proofs.Common.{◌≡◌, ℕ, zero, suc, ◌+◌, ◌-◌, ◌<◌, ◌≤◌, ◌≢◌, true, false, ◌&&◌, List, [], ◌∷◌, ◌++◌, map, length, drop, get_or, refl, sym, ◌∙◌, ap, subst, arith, add-one, drop-cons, take, length-drop, take_all, append_assoc, append-nil}
+use Rattle.std.proofs.Common.{◌≡◌, ℕ, zero, suc, ◌+◌, ◌-◌, ◌<◌, ◌≤◌, ◌≢◌, true, false, ◌&&◌, List, [], ◌∷◌, map, length, drop, get_or, refl, sym, ap, subst, arith, add-one, drop-cons, take, length-drop, take_all}
 use Rattle.zig_tree.specs.declared.grammar.Part.{Part}
 use Rattle.zig_tree.specs.declared.grammar.Production.{Production}
 use Rattle.zig_tree.specs.Grammar.{holds}
@@ -8,8 +8,7 @@ use Rattle.zig_tree.specs.Productions.{alternative}
 use Rattle.zig_parse.specs.declared.choice.Look.{Look}
 use Rattle.zig_parse.specs.declared.thread.Item.{Item}
 use Rattle.zig_parse.specs.Choices.{matching}
-use Rattle.zig_parse.specs.declared.thread.Thread.{Thread}
-use Rattle.zig_parse.specs.Moves.{same_parts, settled, readers, moving}
+use Rattle.zig_parse.specs.Moves.{same_parts}
 use Rattle.zig_parse.specs.Threads.{item}
 
 -- an alternative that may be taken is the first of those from it on

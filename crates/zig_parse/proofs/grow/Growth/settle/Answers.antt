@@ -1,5 +1,4 @@
-use Rattle.std.proofs.Common.{◌≡◌, ◌∙◌, sym, Some, None}
-use Rattle.zig_parse.specs.Growth.{known}
+use Rattle.std.proofs.Common.{◌∙◌, sym}
 use Rattle.zig_parse.specs.Grows.{grown}
 use Rattle.zig_parse.proofs.Costs.{ready_next, ready_less, ready_told}
 use Rattle.zig_parse.proofs.grow.Growth.settle.Goals as goal
