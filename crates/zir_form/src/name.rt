@@ -8,8 +8,8 @@ use std::alloc::{AllocError, Global};
 use zig_tree::Token;
 use zw_base::Bytes;
 
-/// The bytes of a token.
-fn token_bytes<'a>(text: &'a [u8], token: &Token) -> &'a [u8]
+/// The bytes of a token; one that doesn't lie in the text has those of it that do.
+pub fn token_bytes<'a>(text: &'a [u8], token: &Token) -> &'a [u8]
     ensures { result.now ≡ slice_range text.now token.now.span.start token.now.span.end }
 {
     let end = (token.span.end as usize).min(text.len());

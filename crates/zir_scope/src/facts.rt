@@ -1,10 +1,10 @@
 // What scoping sees of a token's text.
-ghost use Rattle.std.specs.Prelude.{◌≡◌, ◌<◌, ◌^◌, IfOk, length, slice_range};
+ghost use Rattle.std.specs.Prelude.{◌≡◌, ◌<◌, ◌^◌, IfOk, length};
 ghost use Rattle.zir_scope.specs.Facts as spec;
 
 use std::alloc::{AllocError, Global};
 use zig_tree::{Token, TokenKind, same_kind};
-use zir_form::{Names, name_of, primitive_of};
+use zir_form::{Names, name_of, primitive_of, token_bytes};
 
 /// The number of the first identifier with the same name, whether a primitive has that name, and
 /// whether the token is the builtin `@field`.
@@ -13,15 +13,6 @@ pub struct Fact {
     pub name: u32,
     pub is_primitive: bool,
     pub is_field: bool,
-}
-
-/// The bytes of a token.
-fn bytes_of<'a>(text: &'a [u8], token: &Token) -> &'a [u8]
-    ensures { result.now ≡ slice_range text.now token.now.span.start token.now.span.end }
-{
-    let end = (token.span.end as usize).min(text.len());
-    let start = (token.span.start as usize).min(end);
-    &text[start..end]
 }
 
 /// Whether a token is an identifier with a primitive's name.
@@ -41,7 +32,7 @@ fn is_primitive(alloc: Global, text: &[u8], token: &Token) -> Result<bool, Alloc
 fn is_field(text: &[u8], token: &Token) -> bool
     ensures { result ≡ spec.is_field text.now token.now }
 {
-    same_kind(token.kind, TokenKind::Builtin) && bytes_of(text, token) == b"@field".as_slice()
+    same_kind(token.kind, TokenKind::Builtin) && token_bytes(text, token) == b"@field".as_slice()
 }
 
 /// What scoping sees of the tokens of a text.
