@@ -7,3 +7,4 @@ pub mod Orders
 pub mod Opening
 pub mod Turns
 pub mod Growing
+pub mod Splits

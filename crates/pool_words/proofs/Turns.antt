@@ -18,7 +18,7 @@ use Rattle.pool_words.proofs.Shards.{IsPool-private, IsPool-publish, publish_low
 use Rattle.pool_words.proofs.Orders.{Earlier-refl, Earlier-trans, Earlier-private, Earlier-publish, Same-refl, Same-trans, Same-other, Same-set, Same-push, IsFree-same, IsNext-same, IsFull-same}
 use Rattle.pool_words.proofs.Growing.{fill_low, fill_high, IsPool-fill, Earlier-fill, IsPool-move, Earlier-move}
 
-set_there : {A : Type 0} (l : List A) (i : ℕ) (a b : A) → get_elem? l i ≡ some b → get_elem? (set l i a) i ≡ some a
+pub set_there : {A : Type 0} (l : List A) (i : ℕ) (a b : A) → get_elem? l i ≡ some b → get_elem? (set l i a) i ≡ some a
 set_there [] i a b e = absurd (some-ne-none b (sym e))
 set_there (x ∷ xs) zero a b e = refl
 set_there (x ∷ xs) (suc i) a b e = set_there xs i a b e

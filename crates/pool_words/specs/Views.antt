@@ -1,5 +1,6 @@
 -- What a seat knows: the pool as it was at its last step. A seat that has the writer's part of a shard knows that shard as it is.
-use Rattle.std.specs.Prelude.{◌≡◌, ◌≢◌, ℕ, zero, suc, ◌+◌, ◌<◌, ◌≤◌, List, [], ◌∷◌, ◌++◌, length, take, replicate, slice_index, slice_set}
+use Rattle.std.specs.Prelude.{◌≡◌, ◌≢◌, ℕ, zero, suc, ◌+◌, ◌<◌, ◌≤◌, ◌==◌, not, List, [], ◌∷◌, ◌++◌, length, take, replicate, slice_index, slice_set}
+use Rattle.std.specs.List.{filter}
 use mathlib.Core.Option.{some}
 use lib.ListN.{get_elem?}
 use Rattle.atomic_table.specs.Table.{State, Me, Step}
@@ -132,3 +133,22 @@ stored st m n m' = Moves m.0 (slice_set m.0.words st.word st.first) m.0.log m'.0
 abbrev pub published : {S : Type 0} → Step S → Me S View → ℕ → Me S View → Type 0
 published st m n m' =
     ((r : Row) → IsReady m.0 st.word r → st.first ≡ r.0 + 1 → Moves m.0 (slice_set m.0.words st.word st.first) (m.0.log ++ r ∷ []) m'.0) × (m'.1 ≡ m.1)
+
+-- a view that has no writer's part
+abbrev pub reader : View → View
+reader v = record { layout = v.layout; words = v.words; log = v.log; writes = [] }
+
+abbrev pub first_of : List ℕ → List ℕ
+first_of [] = []
+first_of (s ∷ ss) = s ∷ []
+
+abbrev pub others_of : List ℕ → List ℕ
+others_of [] = []
+others_of (s ∷ ss) = filter (λ t. not (t == s)) ss
+
+-- a view that has the first of the writer's parts, and one that has the others
+abbrev pub with_first : View → View
+with_first v = record { layout = v.layout; words = v.words; log = v.log; writes = first_of v.writes }
+
+abbrev pub with_others : View → View
+with_others v = record { layout = v.layout; words = v.words; log = v.log; writes = others_of v.writes }

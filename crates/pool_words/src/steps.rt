@@ -1,9 +1,9 @@
 // The steps: one function for each kind, and the opening.
 ghost use Rattle.std.specs.Prelude.{◌≡◌, ◌+◌, ◌<◌, [], ◌∷◌, ◌++◌, length, replicate, slice_index, slice_set, IfOk};
 ghost use Rattle.pool_words.specs.Layout.{Row, IsLayout};
-ghost use Rattle.pool_words.specs.Views.{first_view, Moves, Shown, IsPrivate, IsReady, CanFill, CanMove};
+ghost use Rattle.pool_words.specs.Views.{first_view, Moves, Shown, IsPrivate, IsReady, CanFill, CanMove, reader, with_first, with_others};
 
-use crate::view::{Layout, Loads, Publishes, Stores, WordSeat, Words};
+use crate::view::{Copies, HandsOver, Layout, Loads, Publishes, Stores, WordSeat, Words};
 use std::alloc::{AllocError, Global};
 
 /// A pool of words that are all 0, with the seat that has the writer's part of every shard.
@@ -69,4 +69,24 @@ pub fn move_head(words: &Words, seat: &mut WordSeat, head: usize, level: u64)
     ensures stored { Moves seat.old.me.0 (slice_set seat.old.me.0.words head level) seat.old.me.0.log seat.new.me.0 }
 {
     words.shared.store::<Stores>(seat, head, level);
+}
+
+/// Splits a seat: the new one knows as much, and is no shard's writer.
+pub fn split(words: &Words, seat: &mut WordSeat) -> WordSeat
+    requires of { seat.old.table_id ≡ words.now.shared.table_id }
+    requires some { 0 < words.now.shared.table_id.words }
+    ensures seat { (seat.new.table_id ≡ seat.old.table_id) × (seat.new.id ≡ seat.old.id) × (seat.new.me ≡ seat.old.me) }
+    ensures given { (result.table_id ≡ seat.old.table_id) × (result.me ≡ (reader seat.old.me.0, [])) }
+{
+    words.shared.split_seat::<Copies>(seat)
+}
+
+/// Splits a seat: the new one knows as much, and takes over the first writer's part.
+pub fn hand_over(words: &Words, seat: &mut WordSeat) -> WordSeat
+    requires of { seat.old.table_id ≡ words.now.shared.table_id }
+    requires some { 0 < words.now.shared.table_id.words }
+    ensures seat { (seat.new.table_id ≡ seat.old.table_id) × (seat.new.id ≡ seat.old.id) × (seat.new.me ≡ (with_others seat.old.me.0, seat.old.me.1)) }
+    ensures given { (result.table_id ≡ seat.old.table_id) × (result.me ≡ (with_first seat.old.me.0, [])) }
+{
+    words.shared.split_seat::<HandsOver>(seat)
 }

@@ -1,5 +1,5 @@
 // A pool's layout, what a seat knows of the pool, and the rule.
-use atomic_table::{Play, Seat, Table, TableRule};
+use atomic_table::{Play, Seat, Split, Table, TableRule};
 use std::alloc::Global;
 use std::collections::LinkedList;
 
@@ -60,6 +60,28 @@ impl Play<(), View> for Publishes {
     ghost use Rattle.pool_words.specs.Views.{published};
 
     ghost then = { published };
+}
+
+/// A new seat knows as much, and is no shard's writer.
+pub(crate) struct Copies;
+
+impl Split<View> for Copies {
+    ghost use Rattle.pool_words.specs.Views.{reader};
+
+    ghost left = { λ v. v };
+
+    ghost right = { reader };
+}
+
+/// A new seat knows as much, and takes over the first writer's part.
+pub(crate) struct HandsOver;
+
+impl Split<View> for HandsOver {
+    ghost use Rattle.pool_words.specs.Views.{with_first, with_others};
+
+    ghost left = { with_others };
+
+    ghost right = { with_first };
 }
 
 /// The words of a pool, which its seats share.
