@@ -8,3 +8,4 @@ pub mod Scoping
 pub mod State
 pub mod Facts
 pub mod Findings
+pub mod Captures

@@ -14,6 +14,7 @@
 
 mod binders;
 mod bindings;
+mod captures;
 mod changes;
 mod declare;
 mod enter;
@@ -32,5 +33,6 @@ mod tests;
 mod walk;
 mod words;
 
+pub use captures::Capture;
 pub use event::{Event, Sort, Target};
 pub use scopes::{Scopes, resolve};
