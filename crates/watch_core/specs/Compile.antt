@@ -1,5 +1,5 @@
 -- What a compilation answers: the files as they stand, from the root on.
-use Rattle.std.specs.Prelude.{ℕ, ◌+◌, ◌-◌, ◌*◌, pos, true, if◌then◌else◌, nat_lt, List, [], ◌∷◌, length, map, codes, slice_get, Option, None, Some, Result, Ok, Err}
+use Rattle.std.specs.Prelude.{ℕ, ◌+◌, ◌-◌, ◌*◌, pos, true, if◌then◌else◌, nat_lt, List, [], ◌∷◌, ◌++◌, length, map, codes, slice_get, Option, None, Some, Result, Ok, Err}
 use Rattle.std.specs.Int.{w32, cast_signed}
 use Rattle.zw_base.specs.Outside.{file_at}
 use Rattle.zw_base.specs.declared.diag.DiagCode.TheVariants.{NotBuilt, BadByte, BadEscape, OpenString, BadNumber, UnexpectedToken, TooDeep, RootMissing, ModuleTooLarge}
@@ -24,6 +24,7 @@ use Rattle.wasm_form.specs.declared.module.ValType.TheVariants.{I32}
 use Rattle.wasm_form.specs.declared.module.Instr.TheVariants.{Return, I32Const}
 use Rattle.wasm_form.specs.declared.module.Exported.TheVariants as exported
 use Rattle.wasm_form.specs.Binary.{module_bytes}
+use Rattle.zir_astgen.specs.Calls.{builtin_faults}
 use Rattle.zir_scope.specs.Findings.{scope_faults}
 use Rattle.watch_core.specs.InOrder.{in_order}
 use Rattle.watch_core.specs.Form.{ConstFunction, built_of}
@@ -93,7 +94,11 @@ start_of_some (Some token) = token.span.start
 abbrev pub start_of : List Token → ℕ → ℕ
 start_of tokens n = start_of_some (slice_get tokens n)
 
--- a diagnostic that a file's scopes show, in its place
+-- the diagnostics of a file's names and builtins
+abbrev pub name_faults : List ℕ → List Token → List Node → ℕ → List Found
+name_faults text tokens nodes root = scope_faults text tokens nodes root ++ builtin_faults text tokens nodes
+
+-- one of them in its place
 abbrev pub scope_line : List ℕ → List ℕ → Found → Line
 scope_line root text f = at_byte root text f.span.start f.code
 
@@ -105,7 +110,7 @@ compile_scopes root text tokens (f ∷ fs) = Front (in_order (map (scope_line ro
 -- tokens that are no sentence have one diagnostic, at the token that is refused; the root of a tree is
 -- its last node
 abbrev pub compile_tree : List ℕ → List ℕ → List Token → Result (List Node) SyntaxFault → Compiled
-compile_tree root text tokens (Ok nodes) = compile_scopes root text tokens (scope_faults text tokens nodes (length nodes - 1))
+compile_tree root text tokens (Ok nodes) = compile_scopes root text tokens (name_faults text tokens nodes (length nodes - 1))
 compile_tree root text tokens (Err (syntax.Unexpected kind n)) = Front (at_byte root text (start_of tokens n) UnexpectedToken ∷ [])
 compile_tree root text tokens (Err (syntax.TooDeep n)) = Front (at_byte root text (start_of tokens n) TooDeep ∷ [])
 -- no tokens have this one

@@ -5,11 +5,10 @@ ghost use Rattle.std.specs.Option.{option_map};
 ghost use Rattle.std.specs.Option.{ForSome};
 ghost use Rattle.zig_token.specs.Scan.{tokens_of};
 ghost use Rattle.zig_parse.specs.Growth.{parse_of};
-ghost use Rattle.zir_scope.specs.Findings.{scope_faults};
-ghost use Rattle.watch_core.specs.Compile.{linked, at_start, at_byte, start_of, link, compile_form, compile_scopes, compile_tree, compile_tokens, compile_text, update_of, stack_pointer};
+ghost use Rattle.watch_core.specs.Compile.{linked, at_start, at_byte, start_of, link, compile_form, compile_scopes, compile_tree, compile_tokens, compile_text, update_of, name_faults, stack_pointer};
 
 use crate::form::{ConstFn, built_of};
-use crate::scopes::scope_lines;
+use crate::scopes::{name_faults, scope_lines};
 use crate::session::Update;
 use diag_order::{Line, line_col};
 use std::alloc::{AllocError, Global};
@@ -20,7 +19,6 @@ use wasm_form::{
 use zig_parse::{SyntaxFault, parse};
 use zig_token::{LexFault, tokens};
 use zig_tree::{Token, Tree};
-use zir_scope::resolve;
 use zw_base::limits::TOTAL_BYTES;
 use zw_base::{Bytes, DiagCode, FilePath, Seq};
 use zw_bytes::ByteBuf;
@@ -83,13 +81,13 @@ fn compile_scopes(
 ) -> Result<Update, AllocError>
     requires within { length text.now ≤ TOTAL_BYTES }
     requires count { length tokens.now < 2 ^ 32 }
-    ensures { IfOk result (λ u. u ≡ update_of (compile_scopes root.now text.now tokens.now (scope_faults text.now tokens.now tree.now.nodes tree.now.root))) }
+    ensures { IfOk result (λ u. u ≡ update_of (compile_scopes root.now text.now tokens.now (name_faults text.now tokens.now tree.now.nodes tree.now.root))) }
 {
-    let scopes = resolve(alloc, text, tokens, tree)?;
-    if scopes.found.is_empty() {
+    let found = name_faults(alloc, text, tokens, tree)?;
+    if found.is_empty() {
         compile_form(alloc, root, built_of(text, tokens))
     } else {
-        front(scope_lines(alloc, root, text, scopes.found.as_slice())?)
+        front(scope_lines(alloc, root, text, found.as_slice())?)
     }
 }
 

@@ -1,13 +1,37 @@
-// The diagnostics of a file's names, in their places.
-ghost use Rattle.std.specs.Prelude.{◌≡◌, ◌≤◌, length, map, IfOk};
-ghost use Rattle.watch_core.specs.Compile.{scope_line};
+// The diagnostics of a file's names and builtins, in their places.
+ghost use Rattle.std.specs.Prelude.{◌≡◌, ◌≤◌, ◌<◌, ◌^◌, length, map, IfOk};
+ghost use Rattle.watch_core.specs.Compile.{name_faults, scope_line};
 ghost use Rattle.watch_core.specs.InOrder.{in_order};
 ghost use Rattle.watch_core.specs.ScopeDiags.{diag_of, one};
 
 use diag_order::{Diag, Line, sorted};
 use std::alloc::{AllocError, Global};
+use zig_tree::{Token, Tree};
+use zir_astgen::builtin_faults;
+use zir_scope::{Scopes, resolve};
 use zw_base::limits::TOTAL_BYTES;
 use zw_base::{Bytes, FilePath, FileTexts, Found, Seq};
+
+/// The diagnostics of a file's names and builtins.
+pub fn name_faults(
+    alloc: Global,
+    text: &[u8],
+    tokens: &[Token],
+    tree: &Tree,
+) -> Result<Vec<Found>, AllocError>
+    requires { length tokens.now < 2 ^ 32 }
+    ensures { IfOk result (λ v. v.items ≡ name_faults text.now tokens.now tree.now.nodes tree.now.root) }
+{
+    let Scopes {
+        events: _,
+        captures: _,
+        found,
+    } = resolve(alloc, text, tokens, tree)?;
+    let mut found = found.into_vec();
+    let mut calls = builtin_faults(alloc, text, tokens, tree.nodes.as_slice())?;
+    found.append(&mut calls)?;
+    Ok(found)
+}
 
 /// A diagnostic of a file; a place behind the text is its end.
 fn diag_of(alloc: Global, root: &FilePath, text: &[u8], found: &Found) -> Result<Diag, AllocError>

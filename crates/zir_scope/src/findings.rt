@@ -19,6 +19,17 @@ fn span_of(tokens: &[Token], token: u32) -> Span
     }
 }
 
+/// A diagnostic at a token.
+pub fn found_at(alloc: Global, tokens: &[Token], code: DiagCode, token: u32) -> Found
+    ensures { result ≡ spec.found_at tokens.now code token }
+{
+    Found {
+        code,
+        span: span_of(tokens, token),
+        text: Bytes::of(Vec::new(alloc)),
+    }
+}
+
 /// The locals that are mentioned, each with the token that does.
 #[tactic(auto, unfolding(crate::specs::Findings::uses))]
 fn uses(alloc: Global, events: &[Event]) -> Result<Bindings, AllocError>
@@ -76,11 +87,7 @@ impl Findings {
         ensures used { OnOk result (self.new.used ≡ self.old.used) }
         ensures changed { OnOk result (self.new.changed ≡ self.old.changed) }
     {
-        self.found.push(Found {
-            code,
-            span: span_of(tokens, token),
-            text: Bytes::of(Vec::new(alloc)),
-        })?;
+        self.found.push(found_at(alloc, tokens, code, token))?;
         Ok(())
     }
 

@@ -8,7 +8,7 @@
 //! one, else for a primitive. `walk` lists what is found in the order of the text, and
 //! `specs/Findings.antt` what of it is a diagnostic. Names are compared by number: that of the first
 //! identifier with the same name.
-//! Public call: `resolve`, linear in the file: a name in scope is found in constant time (`Bindings`).
+//! Public calls: `resolve` and `found_at`. `resolve` is linear in the file: a name in scope is found in constant time (`Bindings`).
 //! The crate stands on `zw_base`, `zig_tree` and `zir_form`.
 #![tactic(auto)]
 
@@ -35,4 +35,5 @@ mod words;
 
 pub use captures::Capture;
 pub use event::{Event, Sort, Target};
+pub use findings::found_at;
 pub use scopes::{Scopes, resolve};
