@@ -1,6 +1,6 @@
 -- The token of the file's end is read last: it stands in the row of the root alone, and at its end.
-use Rattle.std.proofs.Common.{◌≡◌, ℕ, zero, suc, ◌+◌, ◌-◌, ◌<◌, ◌≤◌, Bool, true, false, ◌&&◌, ◌||◌, ◌⊎◌, inl, inr, List, [], ◌∷◌, ◌++◌, map, length, Option, Some, None, Result, Ok, Err, refl, sym, ◌∙◌, ap, subst, arith, append_assoc, length-append}
-use Rattle.std.specs.Prelude.{if◌then◌else◌, not, slice_get, nat_lt, ◌^◌}
+use Rattle.std.proofs.Common.{◌≡◌, ℕ, zero, suc, ◌+◌, ◌-◌, ◌<◌, Bool, true, false, ◌&&◌, ◌||◌, ◌⊎◌, inl, inr, List, [], ◌∷◌, ◌++◌, map, length, Option, Some, None, Result, Ok, Err, refl, sym, ◌∙◌, ap, subst, arith}
+use Rattle.std.specs.Prelude.{if◌then◌else◌, not, nat_lt}
 use Rattle.std.proofs.lemmas.Bool.{and_parts, and_from, not-true, eq-eqb}
 use Rattle.zig_tree.specs.declared.token.Token.{Token}
 use Rattle.zig_tree.specs.declared.token.TokenKind.{TokenKind}
@@ -13,7 +13,6 @@ use Rattle.zig_tree.specs.declared.grammar.Part.{Part}
 use Rattle.zig_tree.specs.declared.grammar.Part.TheVariants as part
 use Rattle.zig_tree.specs.Kinds.{has_kind, is_kind, number_of, is_const_or_var, is_name_word, is_assign_operator, is_compare_operator, is_bit_operator, is_shift_operator, is_add_operator, is_multiply_operator, is_prefix_operator, is_pointer_mark, is_atom_word}
 use Rattle.zig_tree.specs.Grammar.{Alternative, group_rows, rule_rows}
-use Rattle.zig_tree.specs.GrammarSentences.{Among, open_at}
 use Rattle.zig_parse.specs.declared.choice.Look.{Look}
 use Rattle.zig_parse.specs.declared.thread.Frame.{Frame}
 use Rattle.zig_parse.specs.declared.thread.Item.{Item}
@@ -24,12 +23,12 @@ use Rattle.zig_parse.specs.declared.fault.SyntaxFault.{SyntaxFault}
 use Rattle.zig_parse.specs.declared.fault.SyntaxFault.TheVariants.{Unexpected, TooDeep}
 use Rattle.zig_parse.specs.Choices.{choices, matching}
 use Rattle.zig_parse.specs.Stack.{rest}
-use Rattle.zig_parse.specs.Threads.{fresh, after_read, closed, closed_from, hardened, is_deep, item, met, met_from, opened, passed, put, replaced, touched_from, with_gain}
+use Rattle.zig_parse.specs.Threads.{fresh, after_read, closed, closed_from, hardened, is_deep, item, met, met_from, opened, passed, put, replaced, touched_from}
 use Rattle.zig_parse.specs.Moves.{move_at, move_from, moves_for, next_move, reading}
 use Rattle.zig_parse.specs.Passes.{begun}
 use Rattle.zig_parse.specs.Surveys.{look_at}
 use Rattle.zig_parse.specs.Nodes.{with_token}
-use Rattle.zig_parse.specs.Growth.{Grown, sprout, Ready, all_read, is_second, known, known_by, moved, moved_by, picked, read_one, read_where, ready, ready_by, shut, shut_from, stuck_at, swapped, token_read, ◌>>=◌}
+use Rattle.zig_parse.specs.Growth.{Grown, sprout, Ready, all_read, is_second, known, known_by, moved, moved_by, picked, read_one, ready, ready_by, shut, shut_from, stuck_at, swapped, token_read, ◌>>=◌}
 use Rattle.zig_parse.proofs.Derived.{each_row, open_is_row, row_tested}
 use Rattle.zig_parse.proofs.Tables.{same_kind}
 use Rattle.zig_parse.proofs.Picks.{picked_open}

@@ -449,7 +449,7 @@ shut_some zero tokens g [] fits s e l =
     let after = if s.f.solid then with_node tokens s.f.rule s.f.parts g.parts else g.parts in
     subst (λ (x : Grown). 0 < length x.parts.nodes) (sym is)
     (root_some tokens g.thread g.parts after s.f s.fs s.f.rule s.behind s.from s.others s.own s.depth (omega (arith, ap (λ (x : List Frame). length x) s.frames)) s.outer refl s.inside
-        (shut_parts tokens (length tokens) 0 g.parts s.f s.others s.own s.from g.thread.depth s.inside s.kids))
+    (shut_parts tokens (length tokens) 0 g.parts s.f s.others s.own s.from g.thread.depth s.inside s.kids))
 shut_some (suc n) tokens g [] fits s e l =
     let is = shut_is tokens g s.f s.fs s.frames in
     let c = close_step tokens (length tokens) 0 g.thread g.parts (omega arith) fits s (omega (arith, ap (λ (x : List Frame). length x) s.frames)) in
