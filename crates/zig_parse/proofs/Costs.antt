@@ -161,12 +161,12 @@ close_less look apart t h =
     omega (arith, w, close_items look apart (length t.frames) t.items h)
 
 -- the part in front of a thread that is replaced
-record IsFront (n : ℕ) (l : List Item) (p : Part) : Type 0 where
-  i : Item
-  is : List Item
-  items : l ≡ i ∷ is
-  part_is : i.part ≡ p
-  level : n ≤ i.level
+pub record IsFront (n : ℕ) (l : List Item) (p : Part) : Type 0 where
+  pub i : Item
+  pub is : List Item
+  pub items : l ≡ i ∷ is
+  pub part_is : i.part ≡ p
+  pub level : n ≤ i.level
 
 rule_at : (look : Look) (apart : Bool) (p : Part) (r : Rule) → move_at look apart p ≡ move.Rule r → p ≡ part.Rule r
 rule_at look apart (part.Token k) r h = absurd (by (is_kind k look.kind) h)
@@ -216,11 +216,11 @@ front_by : (look : Look) (apart : Bool) (n : ℕ) (i : Item) (is : List Item) (m
 front_by look apart n i is m p true e h never f = absurd (never (sym h))
 front_by look apart n i is m p false e h never f = record { i = i; is = is; items = refl; part_is = f h; level = ltb-false i.level n e }
 
-rule_front : (look : Look) (apart : Bool) (n : ℕ) (is : List Item) (r : Rule) → move_from look apart n is ≡ move.Rule r → IsFront n is (part.Rule r)
+pub rule_front : (look : Look) (apart : Bool) (n : ℕ) (is : List Item) (r : Rule) → move_from look apart n is ≡ move.Rule r → IsFront n is (part.Rule r)
 rule_front look apart n [] r h = absurd (cc)
 rule_front look apart n (i ∷ is) r h = front_by look apart n i is (move.Rule r) (part.Rule r) (nat_lt i.level n) refl h (λ e. cc) (rule_at look apart i.part r)
 
-group_front_at : (look : Look) (apart : Bool) (n : ℕ) (is : List Item) (g : Group) → move_from look apart n is ≡ move.Group g → IsFront n is (part.Group g)
+pub group_front_at : (look : Look) (apart : Bool) (n : ℕ) (is : List Item) (g : Group) → move_from look apart n is ≡ move.Group g → IsFront n is (part.Group g)
 group_front_at look apart n [] g h = absurd (cc)
 group_front_at look apart n (i ∷ is) g h = front_by look apart n i is (move.Group g) (part.Group g) (nat_lt i.level n) refl h (λ e. cc) (group_at look apart i.part g)
 
@@ -239,7 +239,7 @@ first_length : (f : Frame) (fs : List Frame) → length (with_first f fs) ≡ le
 first_length f [] = refl
 first_length f (g ∷ fs) = refl
 
-met_keeps : (r : Rule) (t : Thread) (fs : List Frame) → ((met_from r t fs).items ≡ t.items) × (length (met_from r t fs).frames ≡ length t.frames)
+pub met_keeps : (r : Rule) (t : Thread) (fs : List Frame) → ((met_from r t fs).items ≡ t.items) × (length (met_from r t fs).frames ≡ length t.frames)
 unfolding hardened
 met_keeps r t [] = (refl, refl)
 met_keeps r t (f ∷ fs) = by (not f.solid && (nat_lt 0 f.parts || is_never_alone r))

@@ -23,3 +23,4 @@ pub mod Preferred
 pub mod Names
 pub mod CostTables
 pub mod Costs
+pub mod LastToken

@@ -431,6 +431,33 @@ shut_all (suc n) tokens g root [] fits s e l h =
     let frames : length (shut tokens g).thread.frames ≡ suc n = ap (λ (x : Grown). length x.thread.frames) is ∙ ap (λ (x : List Frame). length (closed_from g.thread x).frames) s.frames ∙ closed_length g.thread s.f s.fs ∙ omega (arith, ap (λ (x : List Frame). length x) s.frames) in
     shut_all n tokens (shut tokens g) root t.qs fits t.standing items frames h
 
+-- the nodes are some
+root_some : (tokens : List Token) (t : Thread) (parts after : Parts) (f : Frame) (fs : List Frame) (r : Rule) (behind : List Item) (from : ℕ) (others own : List Kid) (depth : ℕ) → length fs ≡ 0 → Outer tokens parts.nodes fs r behind from others depth → r ≡ f.rule
+    → (i : Inside tokens parts.nodes f from (length tokens) own [] t.depth) → Shut tokens parts after others from (length tokens) (made f.rule i.pieces) f.solid → 0 < length after.nodes
+root_some tokens t parts after f fs r behind from others own depth e at_root er i s =
+    let last = s.last (root_solid tokens parts.nodes f 0 (length tokens) own t.depth i (sym er)) in
+    let nodes_as : after.nodes ≡ parts.nodes ++ s.more = ap (λ (x : Parts). x.nodes) s.same in
+    omega (arith, ap length nodes_as, length-append parts.nodes s.more, last.1)
+root_some tokens t parts after f fs r behind from others own depth e (in_node g gs _ qs below _ from2 _ others2 own2 _ depth2 _ o inner waits ej ek el) er i s = absurd (omega arith)
+
+shut_some : (n : ℕ) (tokens : List Token) (g : Grown) (qs : List Part) → length tokens < 2 ^ 32 → Standing tokens (length tokens) 0 g.thread g.parts qs → g.thread.items ≡ [] → length g.thread.frames ≡ suc n → 0 < length (all_shut (suc n) tokens g).parts.nodes
+unfolding all_shut closed
+shut_some zero tokens g (q ∷ qs) fits s e l = absurd (no_parts tokens (length tokens) 0 g.thread g.parts q qs s e)
+shut_some (suc n) tokens g (q ∷ qs) fits s e l = absurd (no_parts tokens (length tokens) 0 g.thread g.parts q qs s e)
+shut_some zero tokens g [] fits s e l =
+    let is = shut_is tokens g s.f s.fs s.frames in
+    let after = if s.f.solid then with_node tokens s.f.rule s.f.parts g.parts else g.parts in
+    subst (λ (x : Grown). 0 < length x.parts.nodes) (sym is)
+    (root_some tokens g.thread g.parts after s.f s.fs s.f.rule s.behind s.from s.others s.own s.depth (omega (arith, ap (λ (x : List Frame). length x) s.frames)) s.outer refl s.inside
+    (shut_parts tokens (length tokens) 0 g.parts s.f s.others s.own s.from g.thread.depth s.inside s.kids))
+shut_some (suc n) tokens g [] fits s e l =
+    let is = shut_is tokens g s.f s.fs s.frames in
+    let c = close_step tokens (length tokens) 0 g.thread g.parts (omega arith) fits s (omega (arith, ap (λ (x : List Frame). length x) s.frames)) in
+    let t = subst (Stands tokens (length tokens) 0) (sym is) (stands tokens (length tokens) 0 (record { thread = closed g.thread; parts = if s.f.solid then with_node tokens s.f.rule s.f.parts g.parts else g.parts }) c.0 c.1) in
+    let items = ap (λ (x : Grown). x.thread.items) is ∙ closed_items g.thread g.thread.frames ∙ e in
+    let frames : length (shut tokens g).thread.frames ≡ suc n = ap (λ (x : Grown). length x.thread.frames) is ∙ ap (λ (x : List Frame). length (closed_from g.thread x).frames) s.frames ∙ closed_length g.thread s.f s.fs ∙ omega (arith, ap (λ (x : List Frame). length x) s.frames) in
+    shut_some n tokens (shut tokens g) t.qs fits t.standing items frames
+
 -- ---- the whole pass
 
 root_row : Alternative
@@ -476,6 +503,13 @@ whole_by tokens g nodes root n true fits s l e h k =
     let same : (all_shut (suc n) tokens g).parts.nodes ≡ nodes = ap (λ (m : ℕ). (all_shut m tokens g).parts.nodes) (sym l) ∙ nodes_are (length tokens) (all_shut (length g.thread.frames) tokens g).parts.nodes nodes h in
     subst (λ (x : List Node). HoldsAll tokens x root) same
     (shut_all n tokens g root s.qs fits (fewer tokens (length tokens) 100 0 g.thread g.parts s.qs (omega arith) s.standing) (empty_items g.thread.items none) l (k ∙ ap (λ (x : List Node). length x) (sym same)))
+
+pub grown_some : (tokens : List Token) (marks : List Bool) (g : Grown) → length tokens < 2 ^ 32 → all_read (length tokens) 0 tokens marks (sprout (look_at tokens 0)) ≡ Ok g → g.thread.items ≡ [] → 0 < length (all_shut (length g.thread.frames) tokens g).parts.nodes
+grown_some tokens marks g fits h e =
+    let s = all_read_stands (length tokens) 0 tokens marks (sprout (look_at tokens 0)) g (omega arith) fits (sprout_stands tokens) h in
+    let l : length g.thread.frames ≡ suc (length s.standing.fs) = ap (λ (x : List Frame). length x) s.standing.frames in
+    subst (λ (n : ℕ). 0 < length (all_shut n tokens g).parts.nodes) (sym l)
+    (shut_some (length s.standing.fs) tokens g s.qs fits (fewer tokens (length tokens) 100 0 g.thread g.parts s.qs (omega arith) s.standing) e l)
 
 pub grown_sound : (tokens : List Token) (marks : List Bool) (nodes : List Node) (root : ℕ) → length tokens < 2 ^ 32 → grown_from tokens marks ≡ Ok nodes → root + 1 ≡ length nodes → HoldsAll tokens nodes root
 unfolding grown_from whole

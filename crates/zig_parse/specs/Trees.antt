@@ -3,6 +3,7 @@ use Rattle.std.specs.Prelude.{◌≡◌, ℕ, ◌+◌, ◌-◌, ◌<◌, ◌≤�
 use Rattle.zw_base.specs.declared.diag.Span.{Span}
 use Rattle.zig_tree.specs.declared.token.Token.{Token}
 use Rattle.zig_tree.specs.declared.token.TokenKind.{TokenKind}
+use Rattle.zig_tree.specs.declared.token.TokenKind.TheVariants.{End}
 use Rattle.zig_tree.specs.declared.grammar.Rule.TheVariants as rule
 use Rattle.zig_tree.specs.declared.grammar.Part.TheVariants as part
 use Rattle.zig_tree.specs.declared.tree.Kid.{Kid}
@@ -43,8 +44,12 @@ pub record HoldsAll (tokens : List Token) (nodes : List Node) (root : ℕ) : Typ
 unfoldable pub IsSentence : List TokenKind → Type 0
 IsSentence tokens = ((tree : Pieces) → Sentence tokens tree → ⊥) → ⊥
 
--- a refusal names a token of the list and its kind, or the end behind the last one
+-- the last token is that of the file's end
+abbrev pub IsEnded : List Token → Type 0
+IsEnded tokens = (0 < length tokens) × (kind_of (slice_get tokens (length tokens - 1)) ≡ End)
+
+-- a refusal names a token of the list and its kind; of a list without the file's end, maybe the end behind it
 abbrev pub NamesToken : List Token → SyntaxFault → Type 0
-NamesToken tokens (Unexpected kind at) = (at ≤ length tokens) × (kind ≡ kind_of (slice_get tokens at))
+NamesToken tokens (Unexpected kind at) = (at ≤ length tokens) × (kind ≡ kind_of (slice_get tokens at)) × (IsEnded tokens → at < length tokens)
 NamesToken tokens (TooDeep at) = at < length tokens
 NamesToken tokens OutOfMemory = Unit {0}

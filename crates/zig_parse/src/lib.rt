@@ -3,8 +3,11 @@
 //!
 //! The model: `zig_tree`'s rules as data. A first pass follows every way to read the tokens, a few at
 //! a time, and finds the refused token or which way holds; a second pass takes that way and builds
-//! its tree. `parse_of` is both passes as one function on lists.
-//! Public calls: `parse`. The crate stands on `zig_tree` and `zw_base`.
+//! its tree. `parse_of` is both passes as one function on lists. What a tree of it holds is derived by
+//! the grammar's rules, token by token (`specs/Trees.antt`).
+//! Public calls: `parse`. `one_tree`, `one_answer`, `derived_is_sentence`, `tree_is_derived` and
+//! `moves_suffice` are laws without code (`specs/Laws.antt`). The crate stands on `zig_tree` and
+//! `zw_base`.
 #![tactic(auto)]
 
 mod built;

@@ -21,9 +21,9 @@ unfolding IsSentence
 call_sentence tokens (Ok t) h = sentence_some (kinds_of tokens) h.tree h.derived
 call_sentence tokens (Err e) h = tt
 
-call_named : (tokens : List Token) (marks : List Bool) (r : Result Tree SyntaxFault) → Gives (λ t. t.nodes) r (grown_from tokens marks) → IfErr r (NamesToken tokens)
-call_named tokens marks (Ok t) h = tt
-call_named tokens marks (Err e) h = grow_fails tokens marks e h
+call_named : (tokens : List Token) (marks : List Bool) (r : Result Tree SyntaxFault) → length tokens < 2 ^ 32 → Gives (λ t. t.nodes) r (grown_from tokens marks) → IfErr r (NamesToken tokens)
+call_named tokens marks (Ok t) fits h = tt
+call_named tokens marks (Err e) fits h = grow_fails tokens marks e fits h
 
 pub returns-clause-tree : goal.returns-clause-tree
 returns-clause-tree c = call_sound c.args.tokens.now c.as_slice.result.now c.grow.result (omega (arith, c.in-Ok.ensures)) c.grow.ensures.nodes c.grow.ensures.root
@@ -33,7 +33,7 @@ returns-clause-sentence c =
     call_sentence c.args.tokens.now c.grow.result (call_sound c.args.tokens.now c.as_slice.result.now c.grow.result (omega (arith, c.in-Ok.ensures)) c.grow.ensures.nodes c.grow.ensures.root)
 
 pub returns-clause-refused : goal.returns-clause-refused
-returns-clause-refused c = call_named c.args.tokens.now c.as_slice.result.now c.grow.result c.grow.ensures.nodes
+returns-clause-refused c = call_named c.args.tokens.now c.as_slice.result.now c.grow.result (omega (arith, c.in-Ok.ensures)) c.grow.ensures.nodes
 
 pub returns-in_err-chosen-clause-refused : goal.returns-in_err-chosen-clause-refused
 returns-in_err-chosen-clause-refused c =
