@@ -8,3 +8,4 @@ pub mod Opening
 pub mod Turns
 pub mod Growing
 pub mod Splits
+pub mod Joins

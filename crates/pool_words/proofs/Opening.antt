@@ -11,7 +11,7 @@ use Rattle.pool_words.specs.Layout.{width, level_at, base, start, rows_of, head,
 use Rattle.pool_words.specs.Rule.{In, HasRows, Laid, IsShard, IsPool}
 use Rattle.pool_words.specs.Views.{below, first_view, Knows, Holds}
 use Rattle.pool_words.proofs.Windows.{window_replicate}
-use Rattle.pool_words.proofs.Members.{used-nil}
+use Rattle.pool_words.proofs.Members.{Extends-refl, used-nil}
 use Rattle.pool_words.proofs.Places.{level_ends, start_low, start_pos, base_in}
 use Rattle.pool_words.proofs.Levels.{HasRows-none}
 use Rattle.pool_words.proofs.Orders.{Earlier-refl, Same-refl}
@@ -67,6 +67,7 @@ first_knows z l = record {
   pool = IsPool-empty z l;
   earlier = Earlier-refl z (replicate z.words 0) [] (IsPool-empty z l);
   owns = λ s i. Same-refl z s (replicate z.words 0) [];
+  told = Extends-refl [];
 }
 
 pub opens : {S : Type 0} (z : Layout) (ws : List ℕ) (homes : List S) → IsLayout z → ws ≡ replicate z.words 0 → Holds z (opening ws homes (first_view z))
@@ -74,7 +75,7 @@ opens {S} z ws homes l e = subst (λ us. Holds z (opening us homes (first_view z
   log = [];
   laid = l;
   pool = IsPool-empty z l;
-  known = λ id v g. subst (Knows z (replicate z.words 0) []) (only (first_view z) v id g).1 (first_knows z l);
+  known = λ id v g live. subst (Knows z (replicate z.words 0) []) (only (first_view z) v id g).1 (first_knows z l);
   shared = record {
     in_range = λ id v s g i. below_in z.shards s (subst (λ (u : View). In s u.writes) (sym (only (first_view z) v id g).1) i);
     alone = λ id id' v v' s g g' i i'. (only (first_view z) v id g).0 ∙ sym (only (first_view z) v' id' g').0;

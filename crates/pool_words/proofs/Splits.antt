@@ -1,17 +1,16 @@
 -- A split of a seat keeps the rule.
-use Rattle.std.proofs.Common.{◌≡◌, ◌≢◌, ◌⊎◌, inl, inr, ⊎_elim, ℕ, zero, suc, ◌<◌, ◌==◌, Bool, true, false, not, List, [], ◌∷◌, ◌++◌, length, set, refl, sym, ap, ◌∙◌, subst, arith, cond}
-use Rattle.std.proofs.lemmas.Bool.{cases_eq, eqb-true, eq-eqb, ne_eqb}
+use Rattle.std.proofs.Common.{◌≡◌, ◌≢◌, ◌⊎◌, inl, inr, ⊎_elim, ℕ, zero, suc, ◌<◌, ◌==◌, Bool, true, false, not, List, [], ◌∷◌, ◌++◌, length, set, refl, sym, ap, ◌∙◌, subst}
+use Rattle.std.proofs.lemmas.Bool.{cases_eq, eq-eqb, ne_eqb}
 use Rattle.std.proofs.lemmas.List.{length-set}
-use Rattle.std.specs.List.{filter}
 use mathlib.Core.Option.{some, some-injective, some-ne-none}
 use lib.ListN.{get_elem?}
-use Rattle.atomic_table.specs.Table.{State, Splits}
+use Rattle.atomic_table.specs.Table.{Splits}
 use Rattle.atomic_table.proofs.Lists.{at_set, set_else, at_longer, at_last}
 use Rattle.pool_words.specs.declared.view.Layout.{Layout}
 use Rattle.pool_words.specs.declared.view.View.{View}
 use Rattle.pool_words.specs.Layout.{Row}
-use Rattle.pool_words.specs.Rule.{In, IsPool, Earlier, Same}
-use Rattle.pool_words.specs.Views.{Seats, Knows, IsShared, Holds, reader, with_others, with_first, others_of, first_of}
+use Rattle.pool_words.specs.Rule.{In, IsPool, Earlier, Same, Extends}
+use Rattle.pool_words.specs.Views.{IsLive, Seats, Knows, IsShared, Holds, reader, with_others, with_first, others_of, first_of}
 use Rattle.pool_words.proofs.Members.{In-filter, filter-In}
 use Rattle.pool_words.proofs.Turns.{set_there}
 
@@ -31,8 +30,8 @@ kind views id l r j u e = ⊎_elim (λ a. ⊎_elim (λ t. inr (inl (t.0, t.1))) 
 
 -- two views share out what one could write
 pub record Shares (v l r : View) : Type 0 where
-  pub left_pool : (l.layout ≡ v.layout) × (l.words ≡ v.words) × (l.log ≡ v.log)
-  pub right_pool : (r.layout ≡ v.layout) × (r.words ≡ v.words) × (r.log ≡ v.log)
+  pub left_pool : (l.layout ≡ v.layout) × (l.words ≡ v.words) × (l.log ≡ v.log) × (l.told ≡ v.told)
+  pub right_pool : (r.layout ≡ v.layout) × (r.words ≡ v.words) × (r.log ≡ v.log) × (r.told ≡ v.told)
   pub left_in : (s : ℕ) → In s l.writes → In s v.writes
   pub right_in : (s : ℕ) → In s r.writes → In s v.writes
   pub apart : (s : ℕ) → In s l.writes → In s r.writes → ⊥
@@ -79,22 +78,23 @@ module _ (z : Layout) (views : Seats) (id : ℕ) (v l r : View) (h : IsShared z 
   }
 
 -- what a view knows, one with the same pool and fewer shards knows
-knows_less : (z : Layout) (ws : List ℕ) (log : List Row) (v w : View) → Knows z ws log v → (w.layout ≡ v.layout) × (w.words ≡ v.words) × (w.log ≡ v.log) → ((s : ℕ) → In s w.writes → In s v.writes) → Knows z ws log w
+knows_less : (z : Layout) (ws : List ℕ) (log : List Row) (v w : View) → Knows z ws log v → (w.layout ≡ v.layout) × (w.words ≡ v.words) × (w.log ≡ v.log) × (w.told ≡ v.told) → ((s : ℕ) → In s w.writes → In s v.writes) → Knows z ws log w
 knows_less z ws log v w k e less = record {
   layout = e.0 ∙ k.layout;
   pool = subst (λ us. IsPool z us w.log) (sym e.1) (subst (λ (l : List Row). IsPool z v.words l) (sym e.2) k.pool);
   earlier = subst (λ us. Earlier z us w.log ws log) (sym e.1) (subst (λ (l : List Row). Earlier z v.words l ws log) (sym e.2) k.earlier);
   owns = λ s i. subst (λ us. Same z s us w.log ws log) (sym e.1) (subst (λ (l : List Row). Same z s v.words l ws log) (sym e.2) (k.owns s (less s i)));
+  told = subst (λ (l : List Row). Extends l log) (sym e.3) k.told;
 }
 
-pub splits : {S : Type 0} (z : Layout) (id : ℕ) (v l r : View) → Shares v l r → Splits {S = S} (Holds z) id v l r
-splits z id v l r sh st h at =
-    let k = h.known id v at in
+pub splits : {S : Type 0} (z : Layout) (id : ℕ) (v l r : View) → IsLive v → Shares v l r → Splits {S = S} (Holds z) id v l r
+splits z id v l r live sh st h at =
+    let k = h.known id v at live in
     record {
       log = h.log;
       laid = h.laid;
       pool = h.pool;
-      known = λ j u g. ⊎_elim (λ a. h.known j u a.1)
+      known = λ j u g lu. ⊎_elim (λ a. h.known j u a.1 lu)
           (λ b. ⊎_elim (λ c. subst (Knows z st.words h.log) c.1 (knows_less z st.words h.log v l k sh.left_pool sh.left_in)) (λ c. subst (Knows z st.words h.log) c.1 (knows_less z st.words h.log v r k sh.right_pool sh.right_in)) b) (kind st.views id l r j u g);
       shared = IsShared-split z st.views id v l r h.shared at sh;
     }
@@ -102,8 +102,8 @@ splits z id v l r sh st h at =
 -- a copy that writes nothing
 pub Shares-reader : (v : View) → Shares v v (reader v)
 Shares-reader v = record {
-  left_pool = (refl, refl, refl);
-  right_pool = (refl, refl, refl);
+  left_pool = (refl, refl, refl, refl);
+  right_pool = (refl, refl, refl, refl);
   left_in = λ s i. i;
   right_in = λ s i. absurd i;
   apart = λ s i j. j;
@@ -134,8 +134,8 @@ both_parts (x ∷ xs) s i = ⊎_elim (λ e. inr (inl e))
 -- the first shard's part goes to the new seat
 pub Shares-first : (v : View) → Shares v (with_others v) (with_first v)
 Shares-first v = record {
-  left_pool = (refl, refl, refl);
-  right_pool = (refl, refl, refl);
+  left_pool = (refl, refl, refl, refl);
+  right_pool = (refl, refl, refl, refl);
   left_in = λ s i. others_in v.writes s i;
   right_in = λ s i. first_in v.writes s i;
   apart = λ s i j. parted v.writes s i j;

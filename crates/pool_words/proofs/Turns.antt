@@ -9,10 +9,10 @@ use Rattle.atomic_table.proofs.Lists.{at_set, set_else}
 use Rattle.pool_words.specs.declared.view.Layout.{Layout}
 use Rattle.pool_words.specs.declared.view.View.{View}
 use Rattle.pool_words.specs.Layout.{Row, window, used, shard_of, base, start, rows_of}
-use Rattle.pool_words.specs.Rule.{In, IsPool, Earlier, Same}
-use Rattle.pool_words.specs.Views.{Seats, Knows, IsShared, Holds, Moves, Shown, IsPrivate, IsFree, IsReady, IsNext, IsFull, CanFill, CanMove, loaded, stored, published}
+use Rattle.pool_words.specs.Rule.{In, IsPool, Earlier, Same, Extends}
+use Rattle.pool_words.specs.Views.{IsLive, Seats, Knows, IsShared, Holds, Moves, Shown, IsPrivate, IsFree, IsReady, IsNext, IsFull, CanFill, CanMove, loaded, stored, published}
 use Rattle.pool_words.proofs.Windows.{one_row}
-use Rattle.pool_words.proofs.Members.{rows_of-other}
+use Rattle.pool_words.proofs.Members.{Extends-trans, rows_of-other}
 use Rattle.pool_words.proofs.Places.{start_low, start_pos, shard_in}
 use Rattle.pool_words.proofs.Shards.{IsPool-private, IsPool-publish, publish_low, publish_high}
 use Rattle.pool_words.proofs.Orders.{Earlier-refl, Earlier-trans, Earlier-private, Earlier-publish, Same-refl, Same-trans, Same-other, Same-set, Same-push, IsFree-same, IsNext-same, IsFull-same}
@@ -37,7 +37,7 @@ module _ (z : Layout) (views : Seats) (id : ℕ) (v w : View) (h : IsShared z vi
       (λ ne. (j, u, set_else views id j w ne ∙ g, i))
       (cases_eq j id)
 
-  IsShared-set : IsShared z (set views id w)
+  pub IsShared-set : IsShared z (set views id w)
   IsShared-set = record {
     in_range = λ j u s g i. let x = was j u g in h.in_range j x.0 s x.1 (subst (In s) (sym x.2) i);
     alone = λ j j' u u' s g g' i i'. let x = was j u g in let x' = was j' u' g' in h.alone j j' x.0 x'.0 s x.1 x'.1 (subst (In s) (sym x.2) i) (subst (In s) (sym x'.2) i');
@@ -52,42 +52,43 @@ Holds-step {S} z st id v w ws log homes h at same pool earlier others knows = re
   log = log;
   laid = h.laid;
   pool = pool;
-  known = λ j u g. ⊎_elim (λ t. subst (Knows z ws log) t.1 knows) (λ t. still j u t.0 t.1) (at_set st.views id j w u g);
+  known = λ j u g live. ⊎_elim (λ t. subst (Knows z ws log) t.1 knows) (λ t. still j u t.0 t.1 live) (at_set st.views id j w u g);
   shared = IsShared-set z st.views id v w h.shared at same;
 }
   where
-    still : (j : ℕ) (u : View) → j ≢ id → get_elem? st.views j ≡ some u → Knows z ws log u
-    still j u ne g =
-        let k = h.known j u g in
+    still : (j : ℕ) (u : View) → j ≢ id → get_elem? st.views j ≡ some u → IsLive u → Knows z ws log u
+    still j u ne g live =
+        let k = h.known j u g live in
         record {
           layout = k.layout;
           pool = k.pool;
           earlier = Earlier-trans z u.words u.log st.words h.log ws log k.earlier earlier;
           owns = λ s i. Same-trans z s u.words u.log st.words h.log ws log (k.owns s i) (others s (λ o. ne (h.shared.alone j id u v s g at i o)));
+          told = Extends-trans u.told h.log log k.told earlier.grows;
         }
 
 -- what a seat knows at its step
-knows_all : (z : Layout) (w : View) → w.layout ≡ z → IsPool z w.words w.log → Knows z w.words w.log w
-knows_all z w e p = record { layout = e; pool = p; earlier = Earlier-refl z w.words w.log p; owns = λ s i. Same-refl z s w.words w.log }
+knows_all : (z : Layout) (w : View) → w.layout ≡ z → w.told ≡ [] → IsPool z w.words w.log → Knows z w.words w.log w
+knows_all z w e t p = record { layout = e; pool = p; earlier = Earlier-refl z w.words w.log p; owns = λ s i. Same-refl z s w.words w.log; told = subst (λ (l : List Row). Extends l w.log) (sym t) (w.log, refl) }
 
 abbrev with_pool : View → List ℕ → List Row → View
-with_pool v ws log = record { layout = v.layout; words = ws; log = log; writes = v.writes }
+with_pool v ws log = record { layout = v.layout; words = ws; log = log; writes = v.writes; told = [] }
 
-module _ {S : Type 0} (st : State S View) (id : ℕ) (v : View) (h : Holds v.layout st) (at : get_elem? st.views id ≡ some v) (homes : List (Option S)) where
+module _ {S : Type 0} (st : State S View) (id : ℕ) (v : View) (h : Holds v.layout st) (at : get_elem? st.views id ≡ some v) (live : IsLive v) (homes : List (Option S)) where
   load_holds : Holds v.layout record { words = st.words; homes = homes; views = set st.views id (with_pool v st.words h.log) }
   load_holds =
       let w = with_pool v st.words h.log in
-      Holds-step v.layout st id v w st.words h.log homes h at refl h.pool (Earlier-refl v.layout st.words h.log h.pool) (λ t n. Same-refl v.layout t st.words h.log) (knows_all v.layout w refl h.pool)
+      Holds-step v.layout st id v w st.words h.log homes h at refl h.pool (Earlier-refl v.layout st.words h.log h.pool) (λ t n. Same-refl v.layout t st.words h.log) (knows_all v.layout w refl refl h.pool)
 
   load_moves : Shown v (with_pool v st.words h.log)
-  load_moves = let k = h.known id v at in record { layout = refl; writes = refl; laid = h.laid; pool = h.pool; later = k.earlier; owns = k.owns }
+  load_moves = let k = h.known id v at live in record { layout = refl; writes = refl; laid = h.laid; pool = h.pool; later = k.earlier; owns = k.owns; heard = k.told; told = refl }
 
   module _ (i x : ℕ) (pr : IsPrivate v i) where
     in_range : pr.shard < v.layout.shards
     in_range = h.shared.in_range id v pr.shard at pr.ours
 
     above : base v.layout pr.shard + (start v.layout + used (rows_of v.layout pr.shard h.log)) ≤ i
-    above = let k = h.known id v at in subst (λ (l : List Row). base v.layout pr.shard + (start v.layout + used l) ≤ i) (k.owns pr.shard pr.ours).rows pr.above
+    above = let k = h.known id v at live in subst (λ (l : List Row). base v.layout pr.shard + (start v.layout + used l) ≤ i) (k.owns pr.shard pr.ours).rows pr.above
 
     low : base v.layout pr.shard ≤ i
     low = let a = pr.above in omega arith
@@ -102,11 +103,11 @@ module _ {S : Type 0} (st : State S View) (id : ℕ) (v : View) (h : Holds v.lay
     store_holds =
         let w = with_pool v (set st.words i x) h.log in
         Holds-step v.layout st id v w (set st.words i x) h.log homes h at refl store_pool store_earlier
-        (λ t n. Same-other v.layout pr.shard t i x st.words h.log (λ e. n (subst (λ s. In s v.writes) e pr.ours)) low pr.inside) (knows_all v.layout w refl store_pool)
+        (λ t n. Same-other v.layout pr.shard t i x st.words h.log (λ e. n (subst (λ s. In s v.writes) e pr.ours)) low pr.inside) (knows_all v.layout w refl refl store_pool)
 
     store_moves : Moves v (set v.words i x) v.log (with_pool v (set st.words i x) h.log)
     store_moves =
-        let k = h.known id v at in
+        let k = h.known id v at live in
         record {
           layout = refl;
           writes = refl;
@@ -114,12 +115,14 @@ module _ {S : Type 0} (st : State S View) (id : ℕ) (v : View) (h : Holds v.lay
           pool = store_pool;
           later = Earlier-trans v.layout v.words v.log st.words h.log (set st.words i x) h.log k.earlier store_earlier;
           owns = λ s o. Same-set v.layout pr.shard s i x v.words v.log st.words h.log low pr.inside (k.owns s o);
+          heard = k.told;
+          told = refl;
         }
 
   module _ (word : ℕ) (r : Row) (rd : IsReady v word r) where
     at_state : IsFree v.layout st.words h.log word r
     at_state =
-        let k = h.known id v at in
+        let k = h.known id v at live in
         let b = (k.pool.shard (shard_of v.layout r.1) (shard_in v.layout r.1 h.laid)).head_in in
         IsFree-same v.layout v.words v.log st.words h.log word r h.laid b (k.owns (shard_of v.layout r.1) rd.ours) rd.free
 
@@ -147,11 +150,11 @@ module _ {S : Type 0} (st : State S View) (id : ℕ) (v : View) (h : Holds v.lay
     publish_holds : Holds v.layout record { words = set st.words word (r.0 + 1); homes = homes; views = set st.views id (with_pool v (set st.words word (r.0 + 1)) (h.log ++ r ∷ [])) }
     publish_holds =
         let w = with_pool v (set st.words word (r.0 + 1)) (h.log ++ r ∷ []) in
-        Holds-step v.layout st id v w (set st.words word (r.0 + 1)) (h.log ++ r ∷ []) homes h at refl publish_pool publish_earlier others (knows_all v.layout w refl publish_pool)
+        Holds-step v.layout st id v w (set st.words word (r.0 + 1)) (h.log ++ r ∷ []) homes h at refl publish_pool publish_earlier others (knows_all v.layout w refl refl publish_pool)
 
     publish_moves : Moves v (set v.words word (r.0 + 1)) (v.log ++ r ∷ []) (with_pool v (set st.words word (r.0 + 1)) (h.log ++ r ∷ []))
     publish_moves =
-        let k = h.known id v at in
+        let k = h.known id v at live in
         let a = from in
         record {
           layout = refl;
@@ -160,9 +163,11 @@ module _ {S : Type 0} (st : State S View) (id : ℕ) (v : View) (h : Holds v.lay
           pool = publish_pool;
           later = Earlier-trans v.layout v.words v.log st.words h.log (set st.words word (r.0 + 1)) (h.log ++ r ∷ []) k.earlier publish_earlier;
           owns = λ s o. Same-push v.layout s (set v.words word (r.0 + 1)) v.log (set st.words word (r.0 + 1)) h.log r (Same-set v.layout (shard_of v.layout r.1) s word (r.0 + 1) v.words v.log st.words h.log (omega arith) to (k.owns s o));
+          heard = Extends-trans v.told h.log (h.log ++ r ∷ []) k.told publish_earlier.grows;
+          told = refl;
         }
 
-module _ {S : Type 0} (st : State S View) (id : ℕ) (v : View) (h : Holds v.layout st) (at : get_elem? st.views id ≡ some v) (homes : List (Option S)) (s word x : ℕ) (ours : In s v.writes) (from : base v.layout s ≤ word) (to : word < base v.layout s + start v.layout)
+module _ {S : Type 0} (st : State S View) (id : ℕ) (v : View) (h : Holds v.layout st) (at : get_elem? st.views id ≡ some v) (live : IsLive v) (homes : List (Option S)) (s word x : ℕ) (ours : In s v.writes) (from : base v.layout s ≤ word) (to : word < base v.layout s + start v.layout)
     (pool : IsPool v.layout (set st.words word x) h.log) (earlier : Earlier v.layout st.words h.log (set st.words word x) h.log) where
   within : word < base v.layout s + v.layout.size
   within = let a = start_low v.layout h.laid in omega arith
@@ -171,11 +176,11 @@ module _ {S : Type 0} (st : State S View) (id : ℕ) (v : View) (h : Holds v.lay
   level_holds =
       let w = with_pool v (set st.words word x) h.log in
       Holds-step v.layout st id v w (set st.words word x) h.log homes h at refl pool earlier
-      (λ t n. Same-other v.layout s t word x st.words h.log (λ e. n (subst (λ s. In s v.writes) e ours)) from within) (knows_all v.layout w refl pool)
+      (λ t n. Same-other v.layout s t word x st.words h.log (λ e. n (subst (λ s. In s v.writes) e ours)) from within) (knows_all v.layout w refl refl pool)
 
   level_moves : Moves v (set v.words word x) v.log (with_pool v (set st.words word x) h.log)
   level_moves =
-      let k = h.known id v at in
+      let k = h.known id v at live in
       record {
         layout = refl;
         writes = refl;
@@ -183,6 +188,8 @@ module _ {S : Type 0} (st : State S View) (id : ℕ) (v : View) (h : Holds v.lay
         pool = pool;
         later = Earlier-trans v.layout v.words v.log st.words h.log (set st.words word x) h.log k.earlier earlier;
         owns = λ t o. Same-set v.layout s t word x v.words v.log st.words h.log from within (k.owns t o);
+        heard = k.told;
+        told = refl;
       }
 
 one_pair : (r q : Row) → r.0 ≡ q.0 → r.1 ≡ q.1 → r ≡ q
@@ -195,9 +202,9 @@ one_ready v word r q a b e =
     let w = subst (λ n. window v.words n (suc (length q.1)) ≡ length q.1 ∷ q.1) p b.free.whole in
     one_pair q r p (one_row v.words r.0 q.1 r.1 w a.free.whole)
 
-module _ {S : Type 0} (z : Layout) (slots id : ℕ) (me : Me S View) where
+module _ {S : Type 0} (z : Layout) (slots id : ℕ) (me : Me S View) (live : IsLive me.0) where
   own_layout : (st : State S View) → Holds z st → get_elem? st.views id ≡ some me.0 → (me.0.layout ≡ z) × Holds me.0.layout st
-  own_layout st h at = let e = (h.known id me.0 at).layout in (e, subst (λ y. Holds y st) (sym e) h)
+  own_layout st h at = let e = (h.known id me.0 at live).layout in (e, subst (λ y. Holds y st) (sym e) h)
 
   pub load_allowed : (i : ℕ) → Allows (Holds z) slots id me i (λ n. n) (loaded (step slots i 0 0 none) me)
   load_allowed i st h homes at small =
@@ -207,8 +214,8 @@ module _ {S : Type 0} (z : Layout) (slots id : ℕ) (me : Me S View) where
         w,
         keeps,
         tt,
-        subst (λ y. Holds y (stepped st i (slice_index st.words i) id me.1 w keeps)) o.0 (subst (λ us. Holds me.0.layout record { words = us; homes = st.homes; views = set st.views id w }) (sym same) (load_holds st id me.0 o.1 at st.homes)),
-        (load_moves st id me.0 o.1 at st.homes, refl, refl),
+        subst (λ y. Holds y (stepped st i (slice_index st.words i) id me.1 w keeps)) o.0 (subst (λ us. Holds me.0.layout record { words = us; homes = st.homes; views = set st.views id w }) (sym same) (load_holds st id me.0 o.1 at live st.homes)),
+        (load_moves st id me.0 o.1 at live st.homes, refl, refl),
       )
 
   pub store_allowed : (i x : ℕ) → IsPrivate me.0 i → Allows (Holds z) slots id me i (λ _. x) (λ _. stored (step slots i x 0 none) me x)
@@ -218,8 +225,8 @@ module _ {S : Type 0} (z : Layout) (slots id : ℕ) (me : Me S View) where
         w,
         keeps,
         tt,
-        subst (λ y. Holds y (stepped st i x id me.1 w keeps)) o.0 (store_holds st id me.0 o.1 at st.homes i x pr),
-        (store_moves st id me.0 o.1 at st.homes i x pr, refl),
+        subst (λ y. Holds y (stepped st i x id me.1 w keeps)) o.0 (store_holds st id me.0 o.1 at live st.homes i x pr),
+        (store_moves st id me.0 o.1 at live st.homes i x pr, refl),
       )
 
   level_allowed : (s i x : ℕ) → In s me.0.writes → ((st : State S View) (h : Holds me.0.layout st) → get_elem? st.views id ≡ some me.0
@@ -232,14 +239,14 @@ module _ {S : Type 0} (z : Layout) (slots id : ℕ) (me : Me S View) where
         w,
         keeps,
         tt,
-        subst (λ y. Holds y (stepped st i x id me.1 w keeps)) o.0 (level_holds st id me.0 o.1 at st.homes s i x ours g.0 g.1 g.2 g.3),
-        (level_moves st id me.0 o.1 at st.homes s i x ours g.0 g.1 g.2 g.3, refl),
+        subst (λ y. Holds y (stepped st i x id me.1 w keeps)) o.0 (level_holds st id me.0 o.1 at live st.homes s i x ours g.0 g.1 g.2 g.3),
+        (level_moves st id me.0 o.1 at live st.homes s i x ours g.0 g.1 g.2 g.3, refl),
       )
 
   fill_row : (i : ℕ) (s n h : ℕ) (r : Row) → In s me.0.writes → IsNext me.0.layout me.0.words me.0.log s h n i r → Allows (Holds z) slots id me i (λ _. r.0 + 1) (λ _. stored (step slots i (r.0 + 1) 0 none) me (r.0 + 1))
   fill_row i s n h r ours f = level_allowed s i (r.0 + 1) ours (λ st hs at.
       let lt = hs.shared.in_range id me.0 s at ours in
-      let k = hs.known id me.0 at in
+      let k = hs.known id me.0 at live in
       let g = IsNext-same me.0.layout me.0.words me.0.log st.words hs.log s h n i r hs.laid (k.owns s ours) f in
       let a = fill_low me.0.layout st.words hs.log s h n i r hs.laid hs.pool lt g in
       (omega arith, fill_high me.0.layout st.words hs.log s h n i r hs.laid hs.pool lt g, IsPool-fill me.0.layout st.words hs.log s h n i r hs.laid hs.pool lt g, Earlier-fill me.0.layout st.words hs.log s h n i r hs.laid hs.pool lt g))
@@ -251,7 +258,7 @@ module _ {S : Type 0} (z : Layout) (slots id : ℕ) (me : Me S View) where
       → Allows (Holds z) slots id me (base me.0.layout s) (λ _. suc h) (λ _. stored (step slots (base me.0.layout s) (suc h) 0 none) me (suc h))
   move_row s h ours f = level_allowed s (base me.0.layout s) (suc h) ours (λ st hs at.
       let lt = hs.shared.in_range id me.0 s at ours in
-      let k = hs.known id me.0 at in
+      let k = hs.known id me.0 at live in
       let g = IsFull-same me.0.layout me.0.words me.0.log st.words hs.log s h hs.laid (k.owns s ours) f in
       let a = start_pos me.0.layout in
       (omega arith, omega arith, IsPool-move me.0.layout st.words hs.log s h hs.laid hs.pool lt g, Earlier-move me.0.layout st.words hs.log s h hs.laid hs.pool lt g))
@@ -264,11 +271,11 @@ module _ {S : Type 0} (z : Layout) (slots id : ℕ) (me : Me S View) where
   publish_row i r rd st h homes at small =
       let o = own_layout st h at in
       let w = with_pool me.0 (set st.words i (r.0 + 1)) (o.1.log ++ r ∷ []) in
-      let m = publish_moves st id me.0 o.1 at st.homes i r rd in (
+      let m = publish_moves st id me.0 o.1 at live st.homes i r rd in (
         w,
         keeps,
         tt,
-        subst (λ y. Holds y (stepped st i (r.0 + 1) id me.1 w keeps)) o.0 (publish_holds st id me.0 o.1 at st.homes i r rd),
+        subst (λ y. Holds y (stepped st i (r.0 + 1) id me.1 w keeps)) o.0 (publish_holds st id me.0 o.1 at live st.homes i r rd),
         ((λ q rq e. subst (λ (y : Row). Moves me.0 (set me.0.words i (r.0 + 1)) (me.0.log ++ y ∷ []) w) (sym (one_ready me.0 i r q rd rq (sym e))) m), refl),
       )
 

@@ -7,7 +7,7 @@ use Rattle.atomic_table.specs.Table.{State, Me, Step}
 use Rattle.pool_words.specs.declared.view.Layout.{Layout}
 use Rattle.pool_words.specs.declared.view.View.{View}
 use Rattle.pool_words.specs.Layout.{Row, window, width, half, level_at, spot, used, shard_of, base, start, rows_of, head, level, IsLayout}
-use Rattle.pool_words.specs.Rule.{In, HasRows, IsPool, Earlier, Same}
+use Rattle.pool_words.specs.Rule.{In, HasRows, IsPool, Extends, Earlier, Same}
 
 -- the numbers below n
 abbrev pub below : ℕ → List ℕ
@@ -16,7 +16,7 @@ below (suc n) = n ∷ below n
 
 -- the first seat knows the empty pool, and has the writer's part of each shard
 abbrev pub first_view : Layout → View
-first_view z = record { layout = z; words = replicate z.words 0; log = []; writes = below z.shards }
+first_view z = record { layout = z; words = replicate z.words 0; log = []; writes = below z.shards; told = [] }
 
 -- what a seat knows of a pool with these words and this log
 pub record Knows (z : Layout) (ws : List ℕ) (log : List Row) (v : View) : Type 0 where
@@ -24,6 +24,7 @@ pub record Knows (z : Layout) (ws : List ℕ) (log : List Row) (v : View) : Type
   pub pool : IsPool z v.words v.log
   pub earlier : Earlier z v.words v.log ws log
   pub owns : (s : ℕ) → In s v.writes → Same z s v.words v.log ws log
+  pub told : Extends v.told log
 
 abbrev pub Seats : Type 0
 Seats = List View
@@ -34,12 +35,16 @@ pub record IsShared (z : Layout) (views : Seats) : Type 0 where
   pub alone : (id id' : ℕ) (v v' : View) (s : ℕ) → get_elem? views id ≡ some v → get_elem? views id' ≡ some v' → In s v.writes → In s v'.writes → id ≡ id'
   pub owned : (s : ℕ) → s < z.shards → (id : ℕ) × (v : View) × (get_elem? views id ≡ some v) × In s v.writes
 
+-- it was not spent by a join
+abbrev pub IsLive : View → Type 0
+IsLive v = 0 < v.layout.shards
+
 -- the rule
 pub record Holds {S : Type 0} (z : Layout) (st : State S View) : Type 0 where
   pub log : List Row
   pub laid : IsLayout z
   pub pool : IsPool z st.words log
-  pub known : (id : ℕ) (v : View) → get_elem? st.views id ≡ some v → Knows z st.words log v
+  pub known : (id : ℕ) (v : View) → get_elem? st.views id ≡ some v → IsLive v → Knows z st.words log v
   pub shared : IsShared z st.views
 
 -- what a step tells its seat: the pool as it then is, in which the seat's own shards have these words and rows
@@ -50,6 +55,8 @@ pub record Moves (v : View) (ws : List ℕ) (log : List Row) (w : View) : Type 0
   pub pool : IsPool v.layout w.words w.log
   pub later : Earlier v.layout v.words v.log w.words w.log
   pub owns : (s : ℕ) → In s v.writes → Same v.layout s ws log w.words w.log
+  pub heard : Extends v.told w.log
+  pub told : w.told ≡ []
 
 -- the seat was shown the pool
 abbrev pub Shown : View → View → Type 0
@@ -136,7 +143,7 @@ published st m n m' =
 
 -- a view that has no writer's part
 abbrev pub reader : View → View
-reader v = record { layout = v.layout; words = v.words; log = v.log; writes = [] }
+reader v = record { layout = v.layout; words = v.words; log = v.log; writes = []; told = v.told }
 
 abbrev pub first_of : List ℕ → List ℕ
 first_of [] = []
@@ -148,7 +155,15 @@ others_of (s ∷ ss) = filter (λ t. not (t == s)) ss
 
 -- a view that has the first of the writer's parts, and one that has the others
 abbrev pub with_first : View → View
-with_first v = record { layout = v.layout; words = v.words; log = v.log; writes = first_of v.writes }
+with_first v = record { layout = v.layout; words = v.words; log = v.log; writes = first_of v.writes; told = v.told }
 
 abbrev pub with_others : View → View
-with_others v = record { layout = v.layout; words = v.words; log = v.log; writes = others_of v.writes }
+with_others v = record { layout = v.layout; words = v.words; log = v.log; writes = others_of v.writes; told = v.told }
+
+-- a view that was told of what another one knew
+abbrev pub informed : View → View → View
+informed v w = record { layout = v.layout; words = v.words; log = v.log; writes = v.writes; told = w.log }
+
+-- what is left of a view that was joined
+abbrev pub spent_view : View
+spent_view = record { layout = record { shards = 0; size = 0; top = 0; words = 0 }; words = []; log = []; writes = []; told = [] }

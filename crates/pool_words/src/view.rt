@@ -1,5 +1,5 @@
 // A pool's layout, what a seat knows of the pool, and the rule.
-use atomic_table::{Play, Seat, Split, Table, TableRule};
+use atomic_table::{Join, Play, Seat, Split, Table, TableRule};
 use std::alloc::Global;
 use std::collections::LinkedList;
 
@@ -25,6 +25,8 @@ pub struct View {
     pub log: LinkedList<(u64, LinkedList<u64>)>,
     /// The shards whose writer's part the seat has.
     pub writes: LinkedList<u64>,
+    /// The rows of which another seat told it since its last step.
+    pub told: LinkedList<(u64, LinkedList<u64>)>,
 }
 
 /// The rule of the pool's words.
@@ -82,6 +84,17 @@ impl Split<View> for HandsOver {
     ghost left = { with_others };
 
     ghost right = { with_first };
+}
+
+/// A seat is told of what another one knew, which is spent.
+pub(crate) struct Tells;
+
+impl Join<View> for Tells {
+    ghost use Rattle.pool_words.specs.Views.{informed, spent_view};
+
+    ghost both = { informed };
+
+    ghost spent = { spent_view };
 }
 
 /// The words of a pool, which its seats share.

@@ -5,4 +5,4 @@ pub store-requires : goal.store-requires
 store-requires c =
     let s = c.args.seat.now in
     let t = c.args.words.now.shared in
-    (c.requires.of, c.requires.inside, store_allowed t.key t.table_id.slots s.id s.me c.args.word c.args.value c.requires.behind)
+    (c.requires.of, c.requires.inside, store_allowed t.key t.table_id.slots s.id s.me c.requires.live c.args.word c.args.value c.requires.behind)
