@@ -18,7 +18,7 @@ pub fn tell_all(
     report: &Report,
 )
     requires { vec_len gone.old + vec_len list.old ≤ vec_capacity gone.old }
-    ensures told { PartsTold (λ b. heard b) (λ b. faults b) report.now list.old.items list.new.items gone.old.items gone.new.items }
+    ensures told { PartsTold (λ b. heard b) (λ b. faults b) (λ b. calls b) report.now list.old.items list.new.items gone.old.items gone.new.items }
     ensures count { vec_len list.new + vec_len gone.new ≡ vec_len list.old + vec_len gone.old }
     ensures room { vec_capacity gone.new ≡ vec_capacity gone.old }
 {
@@ -40,7 +40,7 @@ fn tell_next(
 )
     requires some { 0 < deque_len queue.old }
     requires room { vec_len gone.old < vec_capacity gone.old }
-    ensures told { IsTurn (λ b. heard b) (λ b. faults b) report.now queue.old.items queue.new.items gone.old.items gone.new.items }
+    ensures told { IsTurn (λ b. heard b) (λ b. faults b) (λ b. calls b) report.now queue.old.items queue.new.items gone.old.items gone.new.items }
     ensures count { deque_len queue.new + vec_len gone.new ≡ deque_len queue.old + vec_len gone.old }
     ensures few { vec_len gone.new ≤ vec_len gone.old + 1 }
     ensures capacity { vec_capacity gone.new ≡ vec_capacity gone.old }
@@ -57,8 +57,8 @@ fn tell_next(
 
 /// Tells one listener, and says whether it heard.
 fn tell(listener: &mut Box<dyn Listener>, report: &Report) -> bool
-    ensures heard { result ≡ true → HasHeard (λ b. heard b) (λ b. faults b) report.now listener.old listener.new }
-    ensures failed { result ≡ false → HasFailed (λ b. heard b) (λ b. faults b) listener.old listener.new }
+    ensures heard { result ≡ true → HasHeard (λ b. heard b) (λ b. faults b) (λ b. calls b) report.now listener.old listener.new }
+    ensures failed { result ≡ false → HasFailed (λ b. heard b) (λ b. faults b) (λ b. calls b) listener.old listener.new }
 {
     listener.told(report).is_ok()
 }

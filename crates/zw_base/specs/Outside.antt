@@ -9,6 +9,10 @@ use Rattle.zw_base.specs.declared.files.Fetched.TheVariants.{Read, Absent, TooLo
 abbrev pub Rose : ℕ → ℕ → Type 0
 Rose before now = min (before + 1) (2 ^ 64 - 1) ≤ now
 
+-- a count of calls after one more; it stands still at its type's end
+abbrev pub one_call_more : ℕ → ℕ
+one_call_more n = min (n + 1) (2 ^ 64 - 1)
+
 -- the bytes of the file at a path, among pairs of path and bytes: those of the first pair with the path
 abbrev pub file_at : List (List ℕ × List ℕ) → List ℕ → Option (List ℕ)
 file_at [] path = None

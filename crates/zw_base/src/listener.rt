@@ -1,6 +1,6 @@
 // Listeners that are told what each update answered: the trait, and the object in memory that meets it.
 ghost use Rattle.std.specs.Prelude.{◌≡◌, ◌≤◌, ℕ, List, [], ◌∷◌, ◌++◌, OnOk, OnErr, IfOk};
-ghost use Rattle.zw_base.specs.Outside.{Rose};
+ghost use Rattle.zw_base.specs.Outside.{Rose, one_call_more};
 
 use crate::plan::FaultPlan;
 use crate::seq::Seq;
@@ -34,7 +34,7 @@ pub struct Report {
 /// A listener that is told reports.
 pub trait Listener: Drop {
     ghost use Rattle.std.specs.Prelude.{◌≡◌, ◌≤◌, ℕ, List, [], ◌∷◌, ◌++◌, OnOk, OnErr};
-    ghost use Rattle.zw_base.specs.Outside.{Rose};
+    ghost use Rattle.zw_base.specs.Outside.{Rose, one_call_more};
     ghost use Rattle.zw_base.specs.declared.listener.Report.{Report};
 
     /// The reports that it has heard.
@@ -43,12 +43,16 @@ pub trait Listener: Drop {
     /// How often telling has failed. The number never falls.
     ghost faults: { Self → ℕ };
 
+    /// How often it was told. The number stands still at its type's end.
+    ghost calls: { Self → ℕ };
+
     /// Tells a report. At `Failed` it has not heard it.
     fn told(&mut self, report: &Report) -> Result<(), Failed>
         ensures heard { OnOk result (heard self.new ≡ heard self.old ++ report.now ∷ []) }
         ensures unheard { OnErr result (heard self.new ≡ heard self.old) }
         ensures faults { faults self.old ≤ faults self.new }
-        ensures failed { OnErr result (Rose (faults self.old) (faults self.new)) };
+        ensures failed { OnErr result (Rose (faults self.old) (faults self.new)) }
+        ensures counted { calls self.new ≡ one_call_more (calls self.old) };
 }
 
 /// A listener in memory, of a fixed room, so that its calls take no memory.
@@ -100,11 +104,14 @@ impl Listener for MemListener {
 
     ghost faults = { λ s. s.plan.faults };
 
+    ghost calls = { λ s. s.plan.calls };
+
     fn told(&mut self, report: &Report) -> Result<(), Failed>
         ensures heard { OnOk result (self.new.heard ≡ self.old.heard ++ report.now ∷ []) }
         ensures unheard { OnErr result (self.new.heard ≡ self.old.heard) }
         ensures faults { self.old.plan.faults ≤ self.new.plan.faults }
         ensures failed { OnErr result (Rose self.old.plan.faults self.new.plan.faults) }
+        ensures counted { self.new.plan.calls ≡ one_call_more self.old.plan.calls }
         ensures exact { result ≡ told_of self.old }
         ensures after { self.new ≡ after_told self.old report.now }
     {
