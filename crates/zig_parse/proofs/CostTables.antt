@@ -106,7 +106,7 @@ cost_of_group group.SuffixTail = 2
 cost_of_group group.Arguments = 15
 cost_of_group group.MoreArguments = 2
 cost_of_group group.DotAtom = 3
-cost_of_group group.ErrorAtom = 2
+cost_of_group group.ErrorAtom = 4
 cost_of_group group.ErrorNames = 2
 cost_of_group group.MoreErrorNames = 2
 cost_of_group group.InitializerBody = 17
@@ -120,6 +120,8 @@ cost_of_group group.ProngHead = 16
 cost_of_group group.MoreItems = 2
 cost_of_group group.Items = 16
 cost_of_group group.ItemRange = 2
+cost_of_group group.ErrorBraces = 2
+cost_of_group group.SwitchBraces = 2
 
 abbrev pub cost_of : Part → ℕ
 cost_of (part.Token _) = 1
@@ -141,6 +143,8 @@ may_be_empty group.ErrorAtom = false
 may_be_empty group.InitializerBody = false
 may_be_empty group.UnionTag = false
 may_be_empty group.ProngHead = false
+may_be_empty group.ErrorBraces = false
+may_be_empty group.SwitchBraces = false
 may_be_empty _ = true
 
 abbrev pub may_be_nothing : Part → Bool
@@ -287,6 +291,8 @@ group_costs group.ProngHead = refl
 group_costs group.MoreItems = refl
 group_costs group.Items = refl
 group_costs group.ItemRange = refl
+group_costs group.ErrorBraces = refl
+group_costs group.SwitchBraces = refl
 
 pub rule_cost_small : (r : Rule) → nat_lt (cost_of_rule r) 30 ≡ true
 rule_cost_small rule.Root = refl
@@ -396,3 +402,5 @@ group_cost_small group.ProngHead = refl
 group_cost_small group.MoreItems = refl
 group_cost_small group.Items = refl
 group_cost_small group.ItemRange = refl
+group_cost_small group.ErrorBraces = refl
+group_cost_small group.SwitchBraces = refl

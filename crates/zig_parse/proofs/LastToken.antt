@@ -174,6 +174,8 @@ group_free group.ProngHead = refl
 group_free group.MoreItems = refl
 group_free group.Items = refl
 group_free group.ItemRange = refl
+group_free group.ErrorBraces = refl
+group_free group.SwitchBraces = refl
 
 -- ---- what is to come
 

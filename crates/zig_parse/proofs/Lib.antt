@@ -24,3 +24,4 @@ pub mod Names
 pub mod CostTables
 pub mod Costs
 pub mod LastToken
+pub mod Ways

@@ -59,6 +59,7 @@ rank_of_group group.InitializerOption = 2
 rank_of_group group.MoreTypePrefixes = 2
 rank_of_group group.Arguments = 14
 rank_of_group group.DotAtom = 2
+rank_of_group group.ErrorAtom = 2
 rank_of_group group.UnionTag = 14
 rank_of_group group.Prongs = 2
 rank_of_group group.ProngHead = 15
@@ -208,6 +209,8 @@ group_ranked group.ProngHead = refl
 group_ranked group.MoreItems = refl
 group_ranked group.Items = refl
 group_ranked group.ItemRange = refl
+group_ranked group.ErrorBraces = refl
+group_ranked group.SwitchBraces = refl
 
 pub rule_rank_small : (r : Rule) → nat_lt (rank_of_rule r) 16 ≡ true
 rule_rank_small rule.Root = refl
@@ -317,6 +320,8 @@ group_rank_small group.ProngHead = refl
 group_rank_small group.MoreItems = refl
 group_rank_small group.Items = refl
 group_rank_small group.ItemRange = refl
+group_rank_small group.ErrorBraces = refl
+group_rank_small group.SwitchBraces = refl
 
 pub rule_apart : (r : Rule) → are_apart (rule_rows r) ≡ true
 unfolding rule_rows number_of
@@ -428,3 +433,5 @@ group_apart group.ProngHead = refl
 group_apart group.MoreItems = refl
 group_apart group.Items = refl
 group_apart group.ItemRange = refl
+group_apart group.ErrorBraces = refl
+group_apart group.SwitchBraces = refl

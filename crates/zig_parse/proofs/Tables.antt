@@ -175,6 +175,8 @@ group_braces group.ProngHead = refl
 group_braces group.MoreItems = refl
 group_braces group.Items = refl
 group_braces group.ItemRange = refl
+group_braces group.ErrorBraces = refl
+group_braces group.SwitchBraces = refl
 
 -- each rule closes the parentheses that it opens
 pub rule_parentheses : (r : Rule) → each_row (row_pairs false false) (rule_rows r) ≡ true
@@ -288,6 +290,8 @@ group_parentheses group.ProngHead = refl
 group_parentheses group.MoreItems = refl
 group_parentheses group.Items = refl
 group_parentheses group.ItemRange = refl
+group_parentheses group.ErrorBraces = refl
+group_parentheses group.SwitchBraces = refl
 
 -- a rule that ends at one place does so by its rows, or is a block
 pub rule_ends : (x : Rule) → is_closed_rule x ≡ true → (is_block x ≡ true) ⊎ (each_row row_ends (rule_rows x) ≡ true)
@@ -401,6 +405,8 @@ group_ends group.ProngHead h = inr refl
 group_ends group.MoreItems h = inr refl
 group_ends group.Items h = inr refl
 group_ends group.ItemRange h = inr refl
+group_ends group.ErrorBraces h = inr refl
+group_ends group.SwitchBraces h = inr refl
 
 -- each part of a row but the last ends at one place
 pub rule_bounded : (r : Rule) → each_row row_bounded (rule_rows r) ≡ true
@@ -514,6 +520,8 @@ group_bounded group.ProngHead = refl
 group_bounded group.MoreItems = refl
 group_bounded group.Items = refl
 group_bounded group.ItemRange = refl
+group_bounded group.ErrorBraces = refl
+group_bounded group.SwitchBraces = refl
 
 -- a kind of token is told by its number
 kinds : List TokenKind

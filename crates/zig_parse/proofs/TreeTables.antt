@@ -215,3 +215,5 @@ group_led group.ProngHead = inr refl
 group_led group.MoreItems = inr refl
 group_led group.Items = inr refl
 group_led group.ItemRange = inr refl
+group_led group.ErrorBraces = inr refl
+group_led group.SwitchBraces = inr refl

@@ -216,7 +216,7 @@ rule_rows rule.ContainerBody =
     []
 -- 26
 rule_rows rule.Switch =
-    row (when.Always) (part.Token kind.KeywordSwitch ∷ part.Token kind.LeftParen ∷ part.Rule rule.Or ∷ part.Token kind.RightParen ∷ part.Token kind.LeftBrace ∷ part.Group group.Prongs ∷ part.Token kind.RightBrace ∷ []) ∷
+    row (when.Always) (part.Token kind.KeywordSwitch ∷ part.Token kind.LeftParen ∷ part.Rule rule.Or ∷ part.Token kind.RightParen ∷ part.Group group.SwitchBraces ∷ []) ∷
     []
 rule_rows rule.Prong =
     row (when.Always) (part.Group group.ProngHead ∷ part.Token kind.EqualAngleRight ∷ part.Group group.CaptureOption ∷ part.Rule rule.Assignment ∷ []) ∷
@@ -433,7 +433,7 @@ group_rows group.DotAtom =
     []
 group_rows group.ErrorAtom =
     row (when.Is kind.Period) (part.Token kind.Period ∷ part.Token kind.Identifier ∷ []) ∷
-    row (when.Is kind.LeftBrace) (part.Token kind.LeftBrace ∷ part.Group group.ErrorNames ∷ part.Token kind.RightBrace ∷ []) ∷
+    row (when.Is kind.LeftBrace) (part.Group group.ErrorBraces ∷ []) ∷
     []
 group_rows group.ErrorNames =
     row (when.Is kind.Identifier) (part.Token kind.Identifier ∷ part.Group group.MoreErrorNames ∷ []) ∷
@@ -487,4 +487,10 @@ group_rows group.Items =
 group_rows group.ItemRange =
     row (when.Is kind.Ellipsis3) (part.Token kind.Ellipsis3 ∷ part.Rule rule.Or ∷ []) ∷
     row (when.Always) ([]) ∷
+    []
+group_rows group.ErrorBraces =
+    row (when.Always) (part.Token kind.LeftBrace ∷ part.Group group.ErrorNames ∷ part.Token kind.RightBrace ∷ []) ∷
+    []
+group_rows group.SwitchBraces =
+    row (when.Always) (part.Token kind.LeftBrace ∷ part.Group group.Prongs ∷ part.Token kind.RightBrace ∷ []) ∷
     []

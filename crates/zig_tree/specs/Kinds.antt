@@ -252,6 +252,8 @@ number_of_group group.ProngHead = 58
 number_of_group group.MoreItems = 59
 number_of_group group.Items = 60
 number_of_group group.ItemRange = 61
+number_of_group group.ErrorBraces = 62
+number_of_group group.SwitchBraces = 63
 
 -- whether two of them are the same
 abbrev pub is_group : Group → Group → Bool

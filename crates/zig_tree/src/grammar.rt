@@ -224,6 +224,10 @@ pub enum Group {
     Items,
     /// The end of a range of a prong, where there is one.
     ItemRange,
+    /// The names of an error set, in braces.
+    ErrorBraces,
+    /// The prongs of a switch, in braces.
+    SwitchBraces,
 }
 
 /// A set of kinds of token.

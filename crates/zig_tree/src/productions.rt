@@ -249,7 +249,7 @@ pub fn rule_productions(of: Rule) -> &'static [Production]
         },
         // 26
         Rule::Switch => alternatives! {
-            Always => T KeywordSwitch, T LeftParen, R Or, T RightParen, T LeftBrace, G Prongs, T RightBrace;
+            Always => T KeywordSwitch, T LeftParen, R Or, T RightParen, G SwitchBraces;
         },
         Rule::Prong => alternatives! {
             Always => G ProngHead, T EqualAngleRight, G CaptureOption, R Assignment;
@@ -472,7 +472,7 @@ pub fn group_productions(of: Group) -> &'static [Production]
         },
         Group::ErrorAtom => alternatives! {
             Is Period => T Period, T Identifier;
-            Is LeftBrace => T LeftBrace, G ErrorNames, T RightBrace;
+            Is LeftBrace => G ErrorBraces;
         },
         Group::ErrorNames => alternatives! {
             Is Identifier => T Identifier, G MoreErrorNames;
@@ -526,6 +526,12 @@ pub fn group_productions(of: Group) -> &'static [Production]
         Group::ItemRange => alternatives! {
             Is Ellipsis3 => T Ellipsis3, R Or;
             Always =>;
+        },
+        Group::ErrorBraces => alternatives! {
+            Always => T LeftBrace, G ErrorNames, T RightBrace;
+        },
+        Group::SwitchBraces => alternatives! {
+            Always => T LeftBrace, G Prongs, T RightBrace;
         },
     }
 }
