@@ -25,3 +25,5 @@ pub mod CostTables
 pub mod Costs
 pub mod LastToken
 pub mod Ways
+pub mod Runs
+pub mod SpelledOnce
