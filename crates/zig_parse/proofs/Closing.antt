@@ -37,14 +37,14 @@ pub record Shut (tokens : List Token) (parts after : Parts) (others : List Kid) 
   pub one : length lone ≡ 1
   pub last : solid ≡ true → (lone ≡ kid.Node (length parts.nodes) ∷ []) × (length more ≡ 1)
 
-node_of : List Token → Rule → List Node → List Kid → Node
+unfoldable pub node_of : List Token → Rule → List Node → List Kid → Node
 node_of tokens r nodes own = record { rule = r; span = span_of tokens nodes own; kids = own }
 
 cut_by : (tokens : List Token) (r : Rule) (parts : Parts) (dropped own kept others : List Kid) → dropped ≡ own → kept ≡ others
     → ◌≡◌ {A = Parts} (record { nodes = parts.nodes ++ node_of tokens r parts.nodes dropped ∷ []; kids = kept ++ kid.Node (length parts.nodes) ∷ [] }) (record { nodes = parts.nodes ++ node_of tokens r parts.nodes own ∷ []; kids = others ++ kid.Node (length parts.nodes) ∷ [] })
 cut_by tokens r parts dropped own kept others h k = rw (h, k) refl
 
-cut_as : (tokens : List Token) (r : Rule) (parts : Parts) (others own : List Kid) (n : ℕ) → parts.kids ≡ others ++ own → n ≡ length own
+pub cut_as : (tokens : List Token) (r : Rule) (parts : Parts) (others own : List Kid) (n : ℕ) → parts.kids ≡ others ++ own → n ≡ length own
     → with_node tokens r n parts ≡ record { nodes = parts.nodes ++ node_of tokens r parts.nodes own ∷ []; kids = others ++ kid.Node (length parts.nodes) ∷ [] }
 unfolding with_node node_of
 cut_as tokens r parts others own n k h =
@@ -70,7 +70,7 @@ shut_solid tokens parts f others own from at depth i k s =
       last = λ e. (refl, refl);
     }
 
-same_parts : (parts : Parts) (others own : List Kid) → parts.kids ≡ others ++ own → parts ≡ record { nodes = parts.nodes ++ []; kids = others ++ own }
+pub same_parts : (parts : Parts) (others own : List Kid) → parts.kids ≡ others ++ own → parts ≡ record { nodes = parts.nodes ++ []; kids = others ++ own }
 same_parts parts others own k = rw (append-nil parts.nodes, sym k) refl
 
 shut_soft : (tokens : List Token) (parts : Parts) (f : Frame) (others own : List Kid) (from at depth : ℕ) (i : Inside tokens parts.nodes f from at own [] depth) → parts.kids ≡ others ++ own → f.solid ≡ false
@@ -105,7 +105,7 @@ height_as f depth own (inr l) h = by f.solid
     by true = omega arith
     by false = omega arith
 
-depth_as : (solid : Bool) (depth below : ℕ) → depth ≡ below + count solid → (if solid then depth - 1 else depth) ≡ below
+pub depth_as : (solid : Bool) (depth below : ℕ) → depth ≡ below + count solid → (if solid then depth - 1 else depth) ≡ below
 depth_as true depth below h = omega arith
 depth_as false depth below h = omega arith
 

@@ -27,3 +27,5 @@ pub mod LastToken
 pub mod Ways
 pub mod Runs
 pub mod SpelledOnce
+pub mod Growing
+pub mod Gathered

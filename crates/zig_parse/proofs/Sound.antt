@@ -116,7 +116,7 @@ ready_deep (suc n) tokens look second g h =
 
 -- ---- the next move
 
-next_at : (look : Look) (t : Thread) (fs : List Frame) (is : List Item) → t.frames ≡ fs → t.items ≡ is → next_move look false t ≡ move_from look false (length fs) is
+pub next_at : (look : Look) (t : Thread) (fs : List Frame) (is : List Item) → t.frames ≡ fs → t.items ≡ is → next_move look false t ≡ move_from look false (length fs) is
 unfolding next_move
 next_at look t fs is h k = ap (λ (l : List Frame). move_from look false (length l) t.items) h ∙ ap (move_from look false (length fs)) k
 
@@ -128,7 +128,7 @@ next_none tokens at moves look t parts s =
       | inr close ↦ inr (e ∙ close)
     ]
 
-level_same : (look : Look) (level : ℕ) (q : Part) (is : List Item) → move_from look false level (item level q ∷ is) ≡ move_at look false q
+pub level_same : (look : Look) (level : ℕ) (q : Part) (is : List Item) → move_from look false level (item level q ∷ is) ≡ move_at look false q
 level_same look level q is = rw (le-ltb level level (omega arith)) refl
 
 next_part : (tokens : List Token) (at moves : ℕ) (look : Look) (t : Thread) (parts : Parts) (q : Part) (qs : List Part) → Standing tokens at moves t parts (q ∷ qs) → next_move look false t ≡ move_at look false q
@@ -160,7 +160,7 @@ not_root_by tokens nodes fs r items at kids depth look n (in_node f gs _ qs belo
 not_root : (tokens : List Token) (at moves : ℕ) (look : Look) (t : Thread) (parts : Parts) (s : Standing tokens at moves t parts []) → next_move look false t ≡ move.Close → 0 < length s.fs
 not_root tokens at moves look t parts s h = not_root_by tokens parts.nodes s.fs s.f.rule s.behind s.from s.others s.depth look (length (s.f ∷ s.fs)) s.outer (sym (next_at look t (s.f ∷ s.fs) s.behind s.frames s.items) ∙ h)
 
-shut_is : (tokens : List Token) (g : Grown) (f : Frame) (fs : List Frame) → g.thread.frames ≡ f ∷ fs → shut tokens g ≡ record { thread = closed g.thread; parts = if f.solid then with_node tokens f.rule f.parts g.parts else g.parts }
+pub shut_is : (tokens : List Token) (g : Grown) (f : Frame) (fs : List Frame) → g.thread.frames ≡ f ∷ fs → shut tokens g ≡ record { thread = closed g.thread; parts = if f.solid then with_node tokens f.rule f.parts g.parts else g.parts }
 unfolding shut
 shut_is tokens g f fs e = ap (shut_from tokens g) e
 
