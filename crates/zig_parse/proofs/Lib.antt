@@ -29,3 +29,4 @@ pub mod Runs
 pub mod SpelledOnce
 pub mod Growing
 pub mod Gathered
+pub mod Goes
