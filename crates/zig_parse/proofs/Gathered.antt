@@ -1,20 +1,18 @@
 -- The innermost open node has all that it will hold, and is closed.
-use Rattle.std.proofs.Common.{◌≡◌, ℕ, ◌+◌, ◌-◌, ◌<◌, ◌≤◌, Bool, true, false, inl, inr, List, [], ◌∷◌, ◌++◌, length, refl, sym, ◌∙◌, ap, subst, arith, append_assoc, length-append}
-use Rattle.std.specs.Prelude.{if◌then◌else◌, max, ◌^◌}
+use Rattle.std.proofs.Common.{◌≡◌, ℕ, ◌<◌, ◌≤◌, Bool, true, false, inl, inr, List, [], ◌∷◌, ◌++◌, length, refl, sym, ◌∙◌, ap, subst, arith, append_assoc, length-append}
+use Rattle.std.specs.Prelude.{if◌then◌else◌, ◌^◌}
 use Rattle.zig_tree.specs.declared.token.Token.{Token}
 use Rattle.zig_tree.specs.declared.grammar.Rule.{Rule}
 use Rattle.zig_tree.specs.declared.tree.Kid.{Kid}
 use Rattle.zig_tree.specs.declared.tree.Kid.TheVariants as kid
 use Rattle.zig_tree.specs.declared.tree.Node.{Node}
 use Rattle.zig_tree.specs.GrammarSentences.{Pieces, nothing, node, followed, made, height}
-use Rattle.zig_parse.specs.declared.thread.Frame.{Frame}
 use Rattle.zig_parse.specs.declared.thread.Item.{Item}
 use Rattle.zig_parse.specs.declared.thread.Thread.{Thread}
 use Rattle.zig_parse.specs.Threads.{one_more, part_height, with_part}
 use Rattle.zig_parse.specs.Nodes.{Parts, with_node}
 use Rattle.zig_parse.specs.Growth.{Grown, shut}
 use Rattle.zig_parse.specs.Trees.{Spells, spells_nothing, spells_node}
-use Rattle.zig_parse.proofs.Shapes.{count}
 use Rattle.zig_parse.proofs.Spelled.{amount, got_last, spells_amount, spells_joined, spells_more, spells_span, spells_within}
 use Rattle.zig_parse.proofs.Story.{height_followed, lone_piece, made_lone, made_one, not_nothing, one_amount}
 use Rattle.zig_parse.proofs.Closing.{Shut, around, closed_around, cut_as, depth_as, node_of, same_parts}

@@ -1,7 +1,7 @@
 -- Where parts derive tokens for sure, and the marks say which alternatives are taken, the second pass reads
 -- these tokens and has these pieces.
-use Rattle.std.proofs.Common.{◌≡◌, ℕ, zero, suc, ◌+◌, ◌-◌, ◌<◌, ◌≤◌, Bool, true, false, ◌&&◌, ◌⊎◌, inl, inr, List, [], ◌∷◌, ◌++◌, map, length, drop, Option, Some, None, refl, sym, ◌∙◌, ap, subst, arith, append_assoc, append-nil, length-drop}
-use Rattle.std.specs.Prelude.{if◌then◌else◌, slice_get, ◌^◌}
+use Rattle.std.proofs.Common.{◌≡◌, ℕ, zero, suc, ◌+◌, ◌<◌, ◌≤◌, Bool, true, false, ◌⊎◌, inl, inr, List, [], ◌∷◌, ◌++◌, length, drop, Option, Some, None, refl, sym, ◌∙◌, ap, subst, arith, append_assoc, append-nil, length-drop}
+use Rattle.std.specs.Prelude.{slice_get, ◌^◌}
 use Rattle.std.proofs.lemmas.Bool.{lt-ltb}
 use Rattle.zig_tree.specs.declared.token.Token.{Token}
 use Rattle.zig_tree.specs.declared.token.TokenKind.{TokenKind}
@@ -11,11 +11,10 @@ use Rattle.zig_tree.specs.declared.grammar.Part.{Part}
 use Rattle.zig_tree.specs.declared.grammar.Part.TheVariants as part
 use Rattle.zig_tree.specs.declared.tree.Node.{Node}
 use Rattle.zig_tree.specs.Grammar.{Alternative, group_rows, rule_rows}
-use Rattle.zig_tree.specs.GrammarSentences.{Pieces, nothing, word, followed, made, next_kind, open_at, Among}
+use Rattle.zig_tree.specs.GrammarSentences.{Pieces, nothing, word, followed, made, Among}
 use Rattle.zig_parse.specs.declared.choice.Look.{Look}
 use Rattle.zig_parse.specs.declared.thread.Frame.{Frame}
 use Rattle.zig_parse.specs.declared.thread.Item.{Item}
-use Rattle.zig_parse.specs.declared.thread.Thread.{Thread}
 use Rattle.zig_parse.specs.declared.thread.Move.TheVariants as move
 use Rattle.zig_parse.specs.Threads.{is_never_alone, item, met, opened, passed, put, replaced}
 use Rattle.zig_parse.specs.Moves.{move_at, move_from, next_move}
@@ -111,7 +110,7 @@ pub record After (tokens : List Token) (marks : List Bool) (at : ℕ) (g : Grown
   pub nodes : last.parts.nodes ≡ g.parts.nodes ++ more
   pub state : State tokens end last l items had
 
-after_run : (tokens : List Token) (marks : List Bool) (start at : ℕ) (b g : Grown) (l : Place) (items : List Item) (had : Pieces) (next : List TokenKind) (news : List Node) → Run tokens marks start b at g → g.parts.nodes ≡ b.parts.nodes ++ news
+pub after_run : (tokens : List Token) (marks : List Bool) (start at : ℕ) (b g : Grown) (l : Place) (items : List Item) (had : Pieces) (next : List TokenKind) (news : List Node) → Run tokens marks start b at g → g.parts.nodes ≡ b.parts.nodes ++ news
     → After tokens marks at g l items had next → After tokens marks start b l items had next
 after_run tokens marks start at b g l items had next news r e a = record {
   end = a.end;
@@ -145,22 +144,32 @@ same_nodes : (at : ℕ) (g : Grown) → (read_at at g).parts.nodes ≡ g.parts.n
 unfolding with_token
 same_nodes at g = sym (append-nil g.parts.nodes)
 
-pub goes_token : (tokens : List Token) (marks : List Bool) (q : Part) (ps : List Part) (k : TokenKind) (toks next : List TokenKind) (later : Pieces) → length tokens < 2 ^ 32 → ((look : Look) → look.kind ≡ k → move_at look false q ≡ move.Read)
-    → Goes tokens marks ps toks next later → Goes tokens marks (q ∷ ps) (k ∷ toks) next (word k later)
-goes_token tokens marks q ps k toks next later fits reads go at l qs items had more g e room led whole s =
+pub token_after : (tokens : List Token) (marks : List Bool) (q : Part) (k : TokenKind) (toks : List TokenKind) → length tokens < 2 ^ 32 → ((look : Look) → look.kind ≡ k → move_at look false q ≡ move.Read)
+    → (at : ℕ) (l : Place) (items : List Item) (had more : Pieces) (g : Grown) → k ∷ toks ≡ left_from tokens at → l.whole ≡ followed had (word k more) → State tokens at g l (item (suc (length l.fs)) q ∷ items) had → After tokens marks at g l items (followed had (word k nothing)) toks
+token_after tokens marks q k toks fits reads at l items had more g e whole s =
     let h = token_here tokens at k toks e in
     let before = still_before tokens at (k ∷ toks) e (omega arith) in
     let look = look_at tokens at in
     let kind : look.kind ≡ k = ap kind_of h.there ∙ h.kind in
-    let now = next_is tokens at look g l q (coming l ps items) had s ∙ reads look kind in
-    let told : l.whole ≡ followed had (word h.t.kind (followed later more)) = whole ∙ ap (λ (x : TokenKind). followed had (word x (followed later more))) (sym h.kind) in
-    let one = read_state tokens at g l q (coming l ps items) had (followed later more) h.t fits before h.there s told in
+    let now = next_is tokens at look g l q items had s ∙ reads look kind in
+    let told : l.whole ≡ followed had (word h.t.kind more) = whole ∙ ap (λ (x : TokenKind). followed had (word x more)) (sym h.kind) in
+    record {
+      end = at + 1;
+      ends = h.after;
+      last = read_at at g;
+      run = run_reads at (at + 1) g (read_at at g) before now (read_calm tokens at g l q items had more h.t.kind s told) (run_none (at + 1) (read_at at g));
+      more = [];
+      nodes = same_nodes at g;
+      state = subst (λ (x : TokenKind). State tokens (at + 1) (read_at at g) l items (followed had (word x nothing))) h.kind (read_state tokens at g l q items had more h.t fits before h.there s told);
+    }
+
+pub goes_token : (tokens : List Token) (marks : List Bool) (q : Part) (ps : List Part) (k : TokenKind) (toks next : List TokenKind) (later : Pieces) → length tokens < 2 ^ 32 → ((look : Look) → look.kind ≡ k → move_at look false q ≡ move.Read)
+    → Goes tokens marks ps toks next later → Goes tokens marks (q ∷ ps) (k ∷ toks) next (word k later)
+goes_token tokens marks q ps k toks next later fits reads go at l qs items had more g e room led whole s =
+    let a = token_after tokens marks q k toks fits reads at l (coming l ps items) had (followed later more) g e whole s in
     let had1 = followed had (word k nothing) in
-    let state : State tokens (at + 1) (read_at at g) l (coming l ps items) had1 = subst (λ (x : TokenKind). State tokens (at + 1) (read_at at g) l (coming l ps items) (followed had (word x nothing))) h.kind one in
-    let rest = go (at + 1) l qs items had1 more (read_at at g) h.after room (led_rest q (ps ++ qs) led) (whole ∙ sym (followed_twice had (word k nothing) (followed later more))) state in
-    let read = run_reads at (at + 1) g (read_at at g) before now (read_calm tokens at g l q (coming l ps items) had (followed later more) h.t.kind s told) (run_none (at + 1) (read_at at g)) in
-    subst (λ (x : Pieces). After tokens marks at g l items x next) (followed_twice had (word k nothing) later)
-    (after_run tokens marks at (at + 1) g (read_at at g) l items (followed had1 later) next [] read (same_nodes at g) rest)
+    let rest = go a.end l qs items had1 more a.last a.ends room (led_rest q (ps ++ qs) led) (whole ∙ sym (followed_twice had (word k nothing) (followed later more))) a.state in
+    subst (λ (x : Pieces). After tokens marks at g l items x next) (followed_twice had (word k nothing) later) (after_run tokens marks at a.end g a.last l items (followed had1 later) next a.more a.run a.nodes rest)
 
 -- ---- a group
 

@@ -1,7 +1,7 @@
 -- The state of the second pass in an open node of which it is known what it will hold, and how each move
 -- changes it.
-use Rattle.std.proofs.Common.{◌≡◌, ℕ, zero, suc, ◌+◌, ◌-◌, ◌<◌, ◌≤◌, Bool, true, false, ◌&&◌, ◌||◌, ◌⊎◌, inl, inr, List, [], ◌∷◌, ◌++◌, map, length, Some, None, refl, sym, ◌∙◌, ap, subst, arith, append_assoc, append-nil, length-append}
-use Rattle.std.specs.Prelude.{if◌then◌else◌, not, max, min, slice_get, nat_lt, ◌^◌}
+use Rattle.std.proofs.Common.{◌≡◌, ℕ, suc, ◌+◌, ◌-◌, ◌<◌, ◌≤◌, Bool, true, false, ◌&&◌, ◌||◌, ◌⊎◌, inl, inr, List, [], ◌∷◌, ◌++◌, map, length, Some, None, refl, sym, ◌∙◌, ap, subst, arith, append_assoc, append-nil, length-append}
+use Rattle.std.specs.Prelude.{if◌then◌else◌, not, min, slice_get, nat_lt, ◌^◌}
 use Rattle.std.proofs.lemmas.Bool.{le-ltb, ltb-true, ltb-false, not-true}
 use Rattle.zig_tree.specs.declared.token.Token.{Token}
 use Rattle.zig_tree.specs.declared.token.TokenKind.{TokenKind}
@@ -11,7 +11,6 @@ use Rattle.zig_tree.specs.declared.grammar.Part.{Part}
 use Rattle.zig_tree.specs.declared.grammar.Part.TheVariants as part
 use Rattle.zig_tree.specs.declared.tree.Kid.{Kid}
 use Rattle.zig_tree.specs.declared.tree.Kid.TheVariants as kid
-use Rattle.zig_tree.specs.declared.tree.Node.{Node}
 use Rattle.zig_tree.specs.GrammarSentences.{Pieces, nothing, word, node, followed, made, makes_no_node_alone, is_one_node, height}
 use Rattle.zig_parse.specs.declared.choice.Look.{Look}
 use Rattle.zig_parse.specs.declared.thread.Frame.{Frame}
@@ -20,14 +19,14 @@ use Rattle.zig_parse.specs.declared.thread.Thread.{Thread}
 use Rattle.zig_parse.specs.Stack.{rest, with_first}
 use Rattle.zig_parse.specs.Threads.{after_read, collapses, gained, hardened, is_deep, is_never_alone, item, met, met_from, one_more, opened, passed, put, replaced, touched_from, with_gain, with_part}
 use Rattle.zig_parse.specs.Moves.{move_at, next_move}
-use Rattle.zig_parse.specs.Nodes.{Parts, with_token}
+use Rattle.zig_parse.specs.Nodes.{with_token}
 use Rattle.zig_parse.specs.Growth.{Grown, with_thread}
 use Rattle.zig_parse.specs.Trees.{Spells, spells_nothing, spells_token}
 use Rattle.zig_parse.proofs.Shapes.{count}
 use Rattle.zig_parse.proofs.TreeTables.{same_lone}
 use Rattle.zig_parse.proofs.Spelled.{amount, spells_joined, spells_amount, spells_within}
 use Rattle.zig_parse.proofs.Story.{amount_followed, height_followed, made_always, made_one, made_several, one_amount, several, worded}
-use Rattle.zig_parse.proofs.Standing.{map_joined, opened_depth}
+use Rattle.zig_parse.proofs.Standing.{opened_depth}
 use Rattle.zig_parse.proofs.Sound.{next_at, level_same}
 use Rattle.zig_parse.proofs.Runs.{read_at}
 
@@ -262,7 +261,7 @@ pub met_state : (tokens : List Token) (at : ℕ) (g : Grown) (l : Place) (r : Ru
 unfolding met
 met_state tokens at g l r items had inside more s e never =
     subst (λ (x : List Frame). Met tokens at (with_thread (met_from r (passed g.thread) x) g) l items had) (sym s.frames)
-    (met_by tokens at g l r items had (followed (made r inside) more) s e (λ h. subst (λ (x : Pieces). is_one_node x ≡ false) (sym e) (many_pieces had (made r inside) more (made_one r inside) (elim h [ | inl some ↦ inl some | inr lone ↦ inr (never lone) ]))) s.f.solid
+    (met_by tokens at g l r items had (followed (made r inside) more) s e (λ h. subst (λ (x : Pieces). is_one_node x ≡ false) (sym e) (many_pieces had (made r inside) more (made_one r inside) (elim h [ inl some ↦ inl some | inr lone ↦ inr (never lone) ]))) s.f.solid
     (nat_lt 0 s.f.parts) (is_never_alone r) refl refl refl)
 
 -- ---- a node is opened
@@ -277,10 +276,10 @@ opened_place tokens at g l r items had inside more s e = record {
   others = g.parts.kids;
   whole = inside;
   low = (
-    let all = within_low tokens at g l items had s in
-    let under = had_low l.whole had (followed (made r inside) more) e in
-    omega (arith, under.1, height_followed (made r inside) more)
-  );
+      let all = within_low tokens at g l items had s in
+      let under = had_low l.whole had (followed (made r inside) more) e in
+      omega (arith, under.1, height_followed (made r inside) more)
+      );
 }
 
 pub open_state : (tokens : List Token) (at : ℕ) (g : Grown) (l : Place) (r : Rule) (ps : List Part) (items : List Item) (had inside more : Pieces) (s : State tokens at g l items had) (e : l.whole ≡ followed had (followed (made r inside) more))

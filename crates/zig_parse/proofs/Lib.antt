@@ -30,3 +30,5 @@ pub mod SpelledOnce
 pub mod Growing
 pub mod Gathered
 pub mod Goes
+pub mod SureGoes
+pub mod SureGrown

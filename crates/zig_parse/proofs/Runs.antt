@@ -1,5 +1,5 @@
 -- Moves of the second pass one after another, and that the pass makes them.
-use Rattle.std.proofs.Common.{◌≡◌, ℕ, suc, ◌+◌, ◌-◌, ◌<◌, ◌≤◌, Bool, true, false, List, [], ◌∷◌, length, Option, Some, None, Result, Ok, Err, refl, sym, ◌∙◌, ap, arith}
+use Rattle.std.proofs.Common.{◌≡◌, ℕ, suc, ◌+◌, ◌-◌, ◌<◌, ◌≤◌, Bool, true, false, List, length, None, Result, Ok, Err, refl, sym, ◌∙◌, ap, arith}
 use Rattle.std.specs.Prelude.{if◌then◌else◌}
 use Rattle.zig_tree.specs.declared.token.Token.{Token}
 use Rattle.zig_parse.specs.declared.choice.Look.{Look}
@@ -11,7 +11,7 @@ use Rattle.zig_parse.specs.Threads.{after_read}
 use Rattle.zig_parse.specs.Moves.{moves_for, next_move}
 use Rattle.zig_parse.specs.Nodes.{with_token}
 use Rattle.zig_parse.specs.Surveys.{look_at}
-use Rattle.zig_parse.specs.Growth.{Grown, Ready, all_read, is_second, known, known_by, moved, moved_by, read_one, read_where, ready, ◌>>=◌}
+use Rattle.zig_parse.specs.Growth.{Grown, all_read, is_second, known, known_by, moved, moved_by, read_one, read_where, ready, ◌>>=◌}
 use Rattle.zig_parse.proofs.Tokens.{ready_known, all_read_ok}
 use Rattle.zig_parse.proofs.Costs.{ready_next}
 
@@ -31,6 +31,11 @@ pub run_joined : (tokens : List Token) (marks : List Bool) (a b c : ℕ) (g h k 
 run_joined tokens marks a b c g h k (run_none _ _) r = r
 run_joined tokens marks a b c g h k (run_moves _ _ _ _ l e q) r = run_moves a c g k l e (run_joined tokens marks a b c (moved tokens (look_at tokens a) (is_second marks a) g) h k q r)
 run_joined tokens marks a b c g h k (run_reads _ _ _ _ l e d q) r = run_reads a c g k l e d (run_joined tokens marks (a + 1) b c (read_at a g) h k q r)
+
+pub run_within : (tokens : List Token) (marks : List Bool) (at end : ℕ) (g last : Grown) → Run tokens marks at g end last → at ≤ length tokens → end ≤ length tokens
+run_within tokens marks at end g last (run_none _ _) h = h
+run_within tokens marks at end g last (run_moves _ _ _ _ l e r) h = run_within tokens marks at end (moved tokens (look_at tokens at) (is_second marks at) g) last r h
+run_within tokens marks at end g last (run_reads _ _ _ _ l e d r) h = run_within tokens marks (at + 1) end (read_at at g) last r (omega arith)
 
 -- ---- what a move tells
 

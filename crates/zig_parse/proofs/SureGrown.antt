@@ -1,0 +1,237 @@
+-- With marks that name the choices of a sure tree, no deeper than 200 nodes, the second pass gives nodes that
+-- spell that very tree.
+use Rattle.std.proofs.Common.{◌≡◌, ℕ, ◌+◌, ◌-◌, ◌<◌, ◌≤◌, Bool, true, false, ◌⊎◌, List, [], ◌∷◌, ◌++◌, length, Result, Ok, Err, refl, sym, ◌∙◌, ap, subst, arith, append-nil, length-append, length-drop}
+use Rattle.std.specs.Prelude.{if◌then◌else◌, ◌^◌, nat_eq, replicate}
+use Rattle.std.proofs.lemmas.Bool.{eq-eqb}
+use Rattle.zig_tree.specs.declared.token.Token.{Token}
+use Rattle.zig_tree.specs.declared.token.TokenKind.{TokenKind}
+use Rattle.zig_tree.specs.declared.token.TokenKind.TheVariants.{End}
+use Rattle.zig_tree.specs.declared.grammar.Rule.TheVariants as rule
+use Rattle.zig_tree.specs.declared.grammar.Group.TheVariants as group
+use Rattle.zig_tree.specs.declared.grammar.When.TheVariants as when
+use Rattle.zig_tree.specs.declared.grammar.Part.{Part}
+use Rattle.zig_tree.specs.declared.grammar.Part.TheVariants as part
+use Rattle.zig_tree.specs.declared.tree.Kid.{Kid}
+use Rattle.zig_tree.specs.declared.tree.Kid.TheVariants as kid
+use Rattle.zig_tree.specs.declared.tree.Node.{Node}
+use Rattle.zig_tree.specs.Grammar.{Alternative, row, rule_rows}
+use Rattle.zig_tree.specs.GrammarSentences.{Pieces, nothing, word, followed, made, makes_no_node_alone, is_one_node, height, open_at}
+use Rattle.zig_parse.specs.declared.thread.Frame.{Frame}
+use Rattle.zig_parse.specs.declared.thread.Item.{Item}
+use Rattle.zig_parse.specs.declared.fault.SyntaxFault.{SyntaxFault}
+use Rattle.zig_parse.specs.declared.fault.SyntaxFault.TheVariants.{Unexpected}
+use Rattle.zig_parse.specs.Threads.{collapses, fresh, is_braced, item, opened, put}
+use Rattle.zig_parse.specs.Choices.{choices, matching}
+use Rattle.zig_parse.specs.Nodes.{Parts}
+use Rattle.zig_parse.specs.Passes.{begun}
+use Rattle.zig_parse.specs.Surveys.{first_state, look_at, surveyed}
+use Rattle.zig_parse.specs.Growth.{Grown, all_read, all_shut, grown_from, nodes_or, parse_of, shut, sprout, whole, ◌>>=◌}
+use Rattle.zig_parse.specs.Trees.{HoldsAll, Spells, kinds_of, spells_nothing}
+use Rattle.zig_parse.proofs.Derived.{followed_nothing, no_longer}
+use Rattle.zig_parse.proofs.Tokens.{all_read_end}
+use Rattle.zig_parse.proofs.Sound.{shut_is}
+use Rattle.zig_parse.proofs.Ways.{Fork, Sure, Taken, noted, sure_none, sure_token, sure_group, sure_rule, sure_group_apart, sure_rule_apart, taken_sole, taken_first, taken_second}
+use Rattle.zig_parse.proofs.SpelledOnce.{spells_same}
+use Rattle.zig_parse.proofs.Runs.{run_read, run_within}
+use Rattle.zig_parse.proofs.Growing.{Place, State, coming}
+use Rattle.zig_parse.proofs.Gathered.{gathered}
+use Rattle.zig_parse.proofs.Goes.{After, Goes, after_run, kinds_length, token_after}
+use Rattle.zig_parse.proofs.SureGoes.{Agrees, reads_token, sure_derives, sure_goes}
+
+-- ---- the root's parts
+
+sole_taken : (later : List Part) (toks end : List TokenKind) (rows : List Alternative) (a b : Alternative) (cs : List Bool) → Taken later toks end rows a cs → rows ≡ b ∷ [] → a ≡ b
+sole_taken later toks end rows a b cs (taken_sole _) e = cc
+sole_taken later toks end rows a b cs (taken_first _ c) e = absurd (cc)
+sole_taken later toks end rows a b cs (taken_second _ c never) e = absurd (cc)
+
+none_sure : (behind : List Part) (toks next end : List TokenKind) (p : Pieces) (forks : List Fork) → Sure [] behind toks next end p forks → (toks ≡ next) × (p ≡ nothing) × (forks ≡ [])
+none_sure behind toks next end p forks (sure_none _ _ _) = (refl, refl, refl)
+
+token_sure : (k : TokenKind) (behind : List Part) (toks next end : List TokenKind) (p : Pieces) (forks : List Fork) → Sure (part.Token k ∷ []) behind toks next end p forks → (toks ≡ k ∷ next) × (p ≡ word k nothing) × (forks ≡ [])
+token_sure k behind toks next end p forks (sure_token _ _ _ after _ _ later _ d) = let n = none_sure behind after next end later forks d in (ap (λ (x : List TokenKind). k ∷ x) n.0, ap (word k) n.1, n.2)
+
+abbrev root_row : Alternative
+root_row = row (when.Always) (part.Group group.RootMembers ∷ part.Token End ∷ [])
+
+-- the members before the file's end
+record Members (toks : List TokenKind) (p : Pieces) (forks : List Fork) : Type 0 where
+  inside : Pieces
+  sure : Sure (part.Group group.RootMembers ∷ []) (part.Token End ∷ []) toks (End ∷ []) [] inside forks
+  same : p ≡ followed inside (word End nothing)
+
+members_sure : (toks : List TokenKind) (p : Pieces) (forks : List Fork) → Sure (part.Group group.RootMembers ∷ part.Token End ∷ []) [] toks [] [] p forks → Members toks p forks
+members_sure toks p forks (sure_group _ a _ _ _ mid _ _ inside later cs inner outer h t d e) =
+    let last = token_sure End [] mid [] [] later outer e in
+    let sure = sure_group group.RootMembers a [] (part.Token End ∷ []) toks mid mid [] inside nothing cs inner [] h t d (sure_none (part.Token End ∷ []) mid []) in
+    let forks_as : noted toks cs ++ (inner ++ []) ≡ noted toks cs ++ (inner ++ outer) = ap (λ (x : List Fork). noted toks cs ++ (inner ++ x)) (sym last.2) in
+    record {
+      inside = inside;
+      sure = subst (λ (x : List TokenKind). Sure (part.Group group.RootMembers ∷ []) (part.Token End ∷ []) toks x [] inside (noted toks cs ++ (inner ++ outer))) last.0
+          (subst (λ (x : Pieces). Sure (part.Group group.RootMembers ∷ []) (part.Token End ∷ []) toks mid [] x (noted toks cs ++ (inner ++ outer))) (followed_nothing inside)
+          (subst (Sure (part.Group group.RootMembers ∷ []) (part.Token End ∷ []) toks mid [] (followed inside nothing)) forks_as sure));
+      same = ap (followed inside) last.1;
+    }
+members_sure toks p forks (sure_group_apart _ a _ _ _ mid _ _ inside later inner outer h t d e) = absurd (cc)
+
+record RootSure (toks : List TokenKind) (tree : Pieces) (forks : List Fork) : Type 0 where
+  p : Pieces
+  members : Members toks p forks
+  same : tree ≡ made rule.Root p
+
+root_parts : (toks : List TokenKind) (tree p later : Pieces) (mid : List TokenKind) (a : Alternative) (inner outer : List Fork) → a ≡ root_row → Sure a.parts [] toks mid [] p inner → Sure [] [] mid [] [] later outer → RootSure toks (followed (made rule.Root p) later) (inner ++ outer)
+root_parts toks tree p later mid a inner outer row_is d e =
+    let n = none_sure [] mid [] [] later outer e in
+    let parts = subst (λ (x : Alternative). Sure x.parts [] toks mid [] p inner) row_is d in
+    let all = subst (λ (x : List TokenKind). Sure root_row.parts [] toks x [] p inner) n.0 parts in
+    let forks_as : inner ≡ inner ++ outer = sym (append-nil inner) ∙ ap (λ (x : List Fork). inner ++ x) (sym n.2) in
+    record {
+      p = p;
+      members = subst (Members toks p) forks_as (members_sure toks p inner all);
+      same = ap (followed (made rule.Root p)) n.1 ∙ followed_nothing (made rule.Root p);
+    }
+
+no_choice : (later : List Part) (toks end : List TokenKind) (rows : List Alternative) (a b : Alternative) (cs : List Bool) → Taken later toks end rows a cs → rows ≡ b ∷ [] → cs ≡ []
+no_choice later toks end rows a b cs (taken_sole _) e = refl
+no_choice later toks end rows a b cs (taken_first _ c) e = absurd (cc)
+no_choice later toks end rows a b cs (taken_second _ c never) e = absurd (cc)
+
+root_sure : (toks : List TokenKind) (tree : Pieces) (forks : List Fork) → Sure (part.Rule rule.Root ∷ []) [] toks [] [] tree forks → RootSure toks tree forks
+unfolding rule_rows is_braced
+root_sure toks tree forks (sure_rule _ a _ _ _ mid _ _ p later cs inner outer h t d e) =
+    let one = sole_taken [] toks [] (open_at toks (rule_rows rule.Root)) a root_row cs t refl in
+    let none = no_choice [] toks [] (open_at toks (rule_rows rule.Root)) a root_row cs t refl in
+    subst (λ (x : List Bool). RootSure toks (followed (made rule.Root p) later) (noted toks x ++ (inner ++ outer))) (sym none) (root_parts toks tree p later mid a inner outer one d e)
+root_sure toks tree forks (sure_rule_apart _ a _ _ _ mid _ _ p later inner outer h t d e) = absurd (cc)
+
+-- ---- the root is opened, and all tokens are read
+
+abbrev root_place : (p : Pieces) → 0 + height (made rule.Root p) ≤ 200 → Place
+root_place p low = record { r = rule.Root; fs = []; below = 0; from = 0; others = []; whole = p; low = low }
+
+sprout_state : (tokens : List Token) (p : Pieces) (low : 0 + height (made rule.Root p) ≤ 200) → State tokens 0 (sprout (look_at tokens 0)) (root_place p low) (coming (root_place p low) root_row.parts []) nothing
+unfolding sprout begun choices matching rule_rows put opened fresh collapses
+sprout_state tokens p low = record {
+  f = record { rule = rule.Root; parts = 0; height = 0; solid = true };
+  own = [];
+  rule_is = refl;
+  frames = refl;
+  items_are = refl;
+  kids = refl;
+  depth = refl;
+  calm = refl;
+  spelled = spells_nothing 0;
+  counted = refl;
+  tall = refl;
+  solid = λ h. refl;
+  alone = λ h. absurd (cc);
+}
+
+all_gone : (tokens : List Token) (marks : List Bool) (p inside : Pieces) (low : 0 + height (made rule.Root p) ≤ 200) → length tokens < 2 ^ 32 → p ≡ followed inside (word End nothing) → Goes tokens marks (part.Group group.RootMembers ∷ []) (kinds_of tokens) (End ∷ []) inside
+    → After tokens marks 0 (sprout (look_at tokens 0)) (root_place p low) [] p []
+all_gone tokens marks p inside low fits e go =
+    let l = root_place p low in
+    let start = sprout (look_at tokens 0) in
+    let end : Item = item 1 (part.Token End) in
+    let a = go 0 l (part.Token End ∷ []) (end ∷ []) nothing (word End nothing) start refl (record { i = end; is = []; some = refl; level = omega arith; pieces = λ h. omega arith }) refl e (sprout_state tokens p low) in
+    let b = token_after tokens marks (part.Token End) End [] fits (reads_token End) a.end l [] inside nothing a.last a.ends e a.state in
+    subst (λ (x : Pieces). After tokens marks 0 start l [] x []) (sym e) (after_run tokens marks 0 a.end start a.last l [] (followed inside (word End nothing)) [] a.more a.run a.nodes b)
+
+-- ---- the root is closed
+
+root_solid : (tokens : List Token) (at : ℕ) (g : Grown) (p : Pieces) (low : 0 + height (made rule.Root p) ≤ 200) (items : List Item) (had : Pieces) (s : State tokens at g (root_place p low) items had) → s.f.solid ≡ true
+root_solid tokens at g p low items had s = by s.f.solid s.alone
+  where
+    by : (b : Bool) → (b ≡ false → (makes_no_node_alone rule.Root ≡ true) × ((had ≡ nothing) ⊎ (is_one_node had ≡ true))) → b ≡ true
+    by true h = refl
+    by false h = let lone = (h refl).0 in absurd (cc)
+
+some_nodes : (at : ℕ) (nodes : List Node) → 0 < length nodes → nodes_or at nodes ≡ Ok nodes
+some_nodes at [] h = absurd (omega arith)
+some_nodes at (n ∷ ns) h = refl
+
+one_shut : (tokens : List Token) (g : Grown) → all_shut 1 tokens g ≡ shut tokens g
+unfolding all_shut
+one_shut tokens g = refl
+
+-- the nodes of the tree, and that they spell it
+pub record GrownAs (tokens : List Token) (given : Result (List Node) SyntaxFault) (tree : Pieces) : Type 0 where
+  pub nodes : List Node
+  pub grows : given ≡ Ok nodes
+  pub spelled : Spells tokens nodes (kid.Node (length nodes - 1) ∷ []) 0 (length tokens) tree
+
+root_nodes : (tokens : List Token) (g : Grown) (p : Pieces) (low : 0 + height (made rule.Root p) ≤ 200) → 0 < length tokens → State tokens (length tokens) g (root_place p low) [] p → GrownAs tokens (nodes_or (length tokens) (shut tokens g).parts.nodes) (made rule.Root p)
+root_nodes tokens g p low some s =
+    let l = root_place p low in
+    let h = gathered tokens (length tokens) g l [] s some in
+    let nodes = g.parts.nodes ++ h.more in
+    let last = h.last (root_solid tokens (length tokens) g p low [] p s) in
+    let nodes_as : (shut tokens g).parts.nodes ≡ nodes = ap (λ (x : Grown). x.parts.nodes) (shut_is tokens g s.f [] s.frames) ∙ ap (λ (x : Parts). x.nodes) h.same in
+    let longer : length nodes ≡ length g.parts.nodes + 1 = omega (arith, length-append g.parts.nodes h.more, last.1) in
+    let number : length g.parts.nodes ≡ length nodes - 1 = omega arith in
+    record {
+      nodes = nodes;
+      grows = ap (nodes_or (length tokens)) nodes_as ∙ some_nodes (length tokens) nodes (omega arith);
+      spelled = subst (λ (x : List Kid). Spells tokens nodes x 0 (length tokens) (made rule.Root p)) (last.0 ∙ ap (λ (n : ℕ). kid.Node n ∷ []) number) h.spelled;
+    }
+
+whole_is : (tokens : List Token) (g : Grown) (f : Frame) → g.thread.items ≡ [] → g.thread.frames ≡ f ∷ [] → whole (length tokens) tokens g ≡ nodes_or (length tokens) (shut tokens g).parts.nodes
+unfolding whole
+whole_is tokens g f ei ef =
+    let none : nat_eq (length g.thread.items) 0 ≡ true = eq-eqb (length g.thread.items) 0 (ap (λ (x : List Item). length x) ei) in
+    let end = length tokens in
+    empty (nat_eq (length g.thread.items) 0) none ∙ ap (λ (x : List Frame). nodes_or end (all_shut (length x) tokens g).parts.nodes) ef ∙ ap (λ (x : Grown). nodes_or end x.parts.nodes) (one_shut tokens g)
+  where
+    empty : (b : Bool) → b ≡ true → (if b then nodes_or (length tokens) (all_shut (length g.thread.frames) tokens g).parts.nodes else Err (Unexpected End (length tokens))) ≡ nodes_or (length tokens) (all_shut (length g.thread.frames) tokens g).parts.nodes
+    empty true e = refl
+    empty false e = absurd (cc)
+
+-- ---- the whole pass
+
+read_whole : (tokens : List Token) (marks : List Bool) (p : Pieces) (low : 0 + height (made rule.Root p) ≤ 200) → 0 < length tokens → After tokens marks 0 (sprout (look_at tokens 0)) (root_place p low) [] p [] → GrownAs tokens (grown_from tokens marks) (made rule.Root p)
+unfolding grown_from
+read_whole tokens marks p low some a =
+    let start = sprout (look_at tokens 0) in
+    let within = run_within tokens marks 0 a.end start a.last a.run (omega arith) in
+    let end : a.end ≡ length tokens = omega (arith, length-drop a.end (kinds_of tokens), kinds_length tokens, ap (λ (x : List TokenKind). length x) a.ends) in
+    let s = subst (λ (n : ℕ). State tokens n a.last (root_place p low) [] p) end a.state in
+    let all : length tokens - 0 ≡ length tokens = omega arith in
+    let read : all_read (length tokens) 0 tokens marks start ≡ Ok a.last =
+    ap (λ (n : ℕ). all_read n 0 tokens marks start) (sym all) ∙ run_read tokens marks 0 a.end start a.last a.run ∙ all_read_end (length tokens) a.end tokens marks a.last (omega arith) in
+    let g = root_nodes tokens a.last p low some s in
+    record {
+      nodes = g.nodes;
+      grows = ap (λ (r : Result Grown SyntaxFault). r >>= λ x. whole (length tokens) tokens x) read ∙ whole_is tokens a.last s.f s.items_are s.frames ∙ g.grows;
+      spelled = g.spelled;
+    }
+
+members_some : (tokens : List Token) (marks : List Bool) (forks : List Fork) (inside : Pieces) → length tokens < 2 ^ 32 → Sure (part.Group group.RootMembers ∷ []) (part.Token End ∷ []) (kinds_of tokens) (End ∷ []) [] inside forks → 0 < length tokens
+members_some tokens marks forks inside fits s =
+    omega (arith, kinds_length tokens, no_longer (part.Group group.RootMembers ∷ []) (kinds_of tokens) (End ∷ []) inside (sure_derives (part.Group group.RootMembers ∷ []) (part.Token End ∷ []) (kinds_of tokens) (End ∷ []) [] inside forks s))
+
+-- the second pass gives nodes that spell the tree
+pub sure_grown : (tokens : List Token) (tree : Pieces) (forks : List Fork) (marks : List Bool) → length tokens < 2 ^ 32 → Sure (part.Rule rule.Root ∷ []) [] (kinds_of tokens) [] [] tree forks → Agrees tokens marks forks → height tree ≤ 200
+    → GrownAs tokens (grown_from tokens marks) tree
+sure_grown tokens tree forks marks fits s agree low =
+    let r = root_sure (kinds_of tokens) tree forks s in
+    let m = r.members in
+    let lower : 0 + height (made rule.Root r.p) ≤ 200 = omega (arith, ap height r.same) in
+    let some = members_some tokens marks forks m.inside fits m.sure in
+    let go = sure_goes tokens marks fits (part.Group group.RootMembers ∷ []) (part.Token End ∷ []) (kinds_of tokens) (End ∷ []) [] m.inside forks m.sure agree (omega arith) in
+    subst (GrownAs tokens (grown_from tokens marks)) (sym r.same) (read_whole tokens marks r.p lower some (all_gone tokens marks r.p m.inside lower fits m.same go))
+
+-- so where the first pass names the choices, all is read as that tree
+pub sure_parsed : (tokens : List Token) (tree : Pieces) (forks : List Fork) (marks : List Bool) → length tokens < 2 ^ 32 → Sure (part.Rule rule.Root ∷ []) [] (kinds_of tokens) [] [] tree forks → Agrees tokens marks forks → height tree ≤ 200
+    → surveyed (length tokens) 0 tokens (first_state (look_at tokens 0)) (replicate (length tokens) false) ≡ Ok marks → GrownAs tokens (parse_of tokens) tree
+unfolding parse_of
+sure_parsed tokens tree forks marks fits s agree low found =
+    subst (λ (r : Result (List Bool) SyntaxFault). GrownAs tokens (r >>= grown_from tokens) tree) (sym found) (sure_grown tokens tree forks marks fits s agree low)
+
+-- and the nodes of the answer hold no other tree
+pub grown_tree : (tokens : List Token) (nodes : List Node) (root : ℕ) (given : Result (List Node) SyntaxFault) (tree : Pieces) → given ≡ Ok nodes → root + 1 ≡ length nodes → GrownAs tokens given tree → (h : HoldsAll tokens nodes root) → h.tree ≡ tree
+grown_tree tokens nodes root given tree e number g h =
+    let same : g.nodes ≡ nodes = (let both : Ok g.nodes ≡ Ok nodes = sym g.grows ∙ e in cc) in
+    let at : length g.nodes - 1 ≡ root = omega (arith, ap (λ (x : List Node). length x) same) in
+    let spelled = subst (λ (x : List Node). Spells tokens x (kid.Node (length g.nodes - 1) ∷ []) 0 (length tokens) tree) same g.spelled in
+    let rooted = subst (λ (n : ℕ). Spells tokens nodes (kid.Node n ∷ []) 0 (length tokens) tree) at spelled in
+    (spells_same tokens nodes (kid.Node root ∷ []) 0 (length tokens) (length tokens) h.tree tree h.spelled rooted).0
