@@ -79,8 +79,8 @@ kinds_length [] = refl
 kinds_length (t ∷ ts) = ap suc (kinds_length ts)
 
 -- tokens that are left begin before the last one's end
-pub still_before : (tokens : List Token) (at : ℕ) (toks : List TokenKind) → toks ≡ left_from tokens at → 0 < length toks → at < length tokens
-still_before tokens at toks e h = omega (arith, length-drop at (kinds_of tokens), kinds_length tokens, ap (λ (x : List TokenKind). length x) e)
+pub still_before : (tokens : List Token) (at : ℕ) (kinds : List TokenKind) → kinds ≡ left_from tokens at → 0 < length kinds → at < length tokens
+still_before tokens at kinds e h = omega (arith, length-drop at (kinds_of tokens), kinds_length tokens, ap (λ (x : List TokenKind). length x) e)
 
 -- a token that is left
 record Here (tokens : List Token) (at : ℕ) (k : TokenKind) (more : List TokenKind) : Type 0 where
@@ -124,11 +124,11 @@ after_run tokens marks start at b g l items had next news r e a = record {
 
 -- parts derive tokens up to others with these pieces, and so the second pass goes from any state before them
 abbrev pub Goes : List Token → List Bool → List Part → List TokenKind → List TokenKind → Pieces → Type 0
-Goes tokens marks ps toks next p = (at : ℕ) (l : Place) (qs : List Part) (items : List Item) (had more : Pieces) (g : Grown) → toks ≡ left_from tokens at → Room l qs items more → is_led (ps ++ qs) ≡ true → l.whole ≡ followed had (followed p more)
+Goes tokens marks ps kinds next p = (at : ℕ) (l : Place) (qs : List Part) (items : List Item) (had more : Pieces) (g : Grown) → kinds ≡ left_from tokens at → Room l qs items more → is_led (ps ++ qs) ≡ true → l.whole ≡ followed had (followed p more)
     → State tokens at g l (coming l ps items) had → After tokens marks at g l items (followed had p) next
 
-pub goes_none : (tokens : List Token) (marks : List Bool) (toks : List TokenKind) → Goes tokens marks [] toks toks nothing
-goes_none tokens marks toks at l qs items had more g e room led whole s = record {
+pub goes_none : (tokens : List Token) (marks : List Bool) (kinds : List TokenKind) → Goes tokens marks [] kinds kinds nothing
+goes_none tokens marks kinds at l qs items had more g e room led whole s = record {
   end = at;
   ends = e;
   last = g;
@@ -144,11 +144,11 @@ same_nodes : (at : ℕ) (g : Grown) → (read_at at g).parts.nodes ≡ g.parts.n
 unfolding with_token
 same_nodes at g = sym (append-nil g.parts.nodes)
 
-pub token_after : (tokens : List Token) (marks : List Bool) (q : Part) (k : TokenKind) (toks : List TokenKind) → length tokens < 2 ^ 32 → ((look : Look) → look.kind ≡ k → move_at look false q ≡ move.Read)
-    → (at : ℕ) (l : Place) (items : List Item) (had more : Pieces) (g : Grown) → k ∷ toks ≡ left_from tokens at → l.whole ≡ followed had (word k more) → State tokens at g l (item (suc (length l.fs)) q ∷ items) had → After tokens marks at g l items (followed had (word k nothing)) toks
-token_after tokens marks q k toks fits reads at l items had more g e whole s =
-    let h = token_here tokens at k toks e in
-    let before = still_before tokens at (k ∷ toks) e (omega arith) in
+pub token_after : (tokens : List Token) (marks : List Bool) (q : Part) (k : TokenKind) (kinds : List TokenKind) → length tokens < 2 ^ 32 → ((look : Look) → look.kind ≡ k → move_at look false q ≡ move.Read)
+    → (at : ℕ) (l : Place) (items : List Item) (had more : Pieces) (g : Grown) → k ∷ kinds ≡ left_from tokens at → l.whole ≡ followed had (word k more) → State tokens at g l (item (suc (length l.fs)) q ∷ items) had → After tokens marks at g l items (followed had (word k nothing)) kinds
+token_after tokens marks q k kinds fits reads at l items had more g e whole s =
+    let h = token_here tokens at k kinds e in
+    let before = still_before tokens at (k ∷ kinds) e (omega arith) in
     let look = look_at tokens at in
     let kind : look.kind ≡ k = ap kind_of h.there ∙ h.kind in
     let now = next_is tokens at look g l q items had s ∙ reads look kind in
@@ -163,10 +163,10 @@ token_after tokens marks q k toks fits reads at l items had more g e whole s =
       state = subst (λ (x : TokenKind). State tokens (at + 1) (read_at at g) l items (followed had (word x nothing))) h.kind (read_state tokens at g l q items had more h.t fits before h.there s told);
     }
 
-pub goes_token : (tokens : List Token) (marks : List Bool) (q : Part) (ps : List Part) (k : TokenKind) (toks next : List TokenKind) (later : Pieces) → length tokens < 2 ^ 32 → ((look : Look) → look.kind ≡ k → move_at look false q ≡ move.Read)
-    → Goes tokens marks ps toks next later → Goes tokens marks (q ∷ ps) (k ∷ toks) next (word k later)
-goes_token tokens marks q ps k toks next later fits reads go at l qs items had more g e room led whole s =
-    let a = token_after tokens marks q k toks fits reads at l (coming l ps items) had (followed later more) g e whole s in
+pub goes_token : (tokens : List Token) (marks : List Bool) (q : Part) (ps : List Part) (k : TokenKind) (kinds next : List TokenKind) (later : Pieces) → length tokens < 2 ^ 32 → ((look : Look) → look.kind ≡ k → move_at look false q ≡ move.Read)
+    → Goes tokens marks ps kinds next later → Goes tokens marks (q ∷ ps) (k ∷ kinds) next (word k later)
+goes_token tokens marks q ps k kinds next later fits reads go at l qs items had more g e room led whole s =
+    let a = token_after tokens marks q k kinds fits reads at l (coming l ps items) had (followed later more) g e whole s in
     let had1 = followed had (word k nothing) in
     let rest = go a.end l qs items had1 more a.last a.ends room (led_rest q (ps ++ qs) led) (whole ∙ sym (followed_twice had (word k nothing) (followed later more))) a.state in
     subst (λ (x : Pieces). After tokens marks at g l items x next) (followed_twice had (word k nothing) later) (after_run tokens marks at a.end g a.last l items (followed had1 later) next a.more a.run a.nodes rest)
@@ -175,12 +175,12 @@ goes_token tokens marks q ps k toks next later fits reads go at l qs items had m
 
 -- the marks name this alternative
 abbrev pub Picks : List Token → List Bool → List TokenKind → List Alternative → Alternative → Type 0
-Picks tokens marks toks rows a = (at : ℕ) → toks ≡ left_from tokens at → at < length tokens → picked (is_second marks at) (choices (look_at tokens at) rows) ≡ Some a.parts
+Picks tokens marks kinds rows a = (at : ℕ) → kinds ≡ left_from tokens at → at < length tokens → picked (is_second marks at) (choices (look_at tokens at) rows) ≡ Some a.parts
 
-pub goes_group : (tokens : List Token) (marks : List Bool) (k : Group) (a : Alternative) (ps : List Part) (toks mid next : List TokenKind) (inside later : Pieces) → Among a (group_rows k) → Picks tokens marks toks (group_rows k) a → 0 < length toks
-    → (has_piece ps ≡ true → 0 < amount later) → Goes tokens marks a.parts toks mid inside → Goes tokens marks ps mid next later → Goes tokens marks (part.Group k ∷ ps) toks next (followed inside later)
-goes_group tokens marks k a ps toks mid next inside later among picks some pieces first second at l qs items had more g e room led whole s =
-    let before = still_before tokens at toks e some in
+pub goes_group : (tokens : List Token) (marks : List Bool) (k : Group) (a : Alternative) (ps : List Part) (kinds mid next : List TokenKind) (inside later : Pieces) → Among a (group_rows k) → Picks tokens marks kinds (group_rows k) a → 0 < length kinds
+    → (has_piece ps ≡ true → 0 < amount later) → Goes tokens marks a.parts kinds mid inside → Goes tokens marks ps mid next later → Goes tokens marks (part.Group k ∷ ps) kinds next (followed inside later)
+goes_group tokens marks k a ps kinds mid next inside later among picks some pieces first second at l qs items had more g e room led whole s =
+    let before = still_before tokens at kinds e some in
     let look = look_at tokens at in
     let mark = is_second marks at in
     let pick = picks at e before in
@@ -256,11 +256,11 @@ close_rule tokens marks start g l r a ps qs items had inside later more mid e fi
       state = done.state;
     }
 
-pub goes_rule : (tokens : List Token) (marks : List Bool) (r : Rule) (a : Alternative) (ps : List Part) (toks mid next : List TokenKind) (inside later : Pieces) → length tokens < 2 ^ 32 → is_led a.parts ≡ true → Picks tokens marks toks (rule_rows r) a → 0 < length mid
-    → length mid < length toks → (has_piece ps ≡ true → 0 < amount later) → Goes tokens marks a.parts toks mid inside → Goes tokens marks ps mid next later → Goes tokens marks (part.Rule r ∷ ps) toks next (followed (made r inside) later)
+pub goes_rule : (tokens : List Token) (marks : List Bool) (r : Rule) (a : Alternative) (ps : List Part) (kinds mid next : List TokenKind) (inside later : Pieces) → length tokens < 2 ^ 32 → is_led a.parts ≡ true → Picks tokens marks kinds (rule_rows r) a → 0 < length mid
+    → length mid < length kinds → (has_piece ps ≡ true → 0 < amount later) → Goes tokens marks a.parts kinds mid inside → Goes tokens marks ps mid next later → Goes tokens marks (part.Rule r ∷ ps) kinds next (followed (made r inside) later)
 unfolding opened_place
-goes_rule tokens marks r a ps toks mid next inside later fits inner picks some less pieces first second at l qs items had more g e room led whole s =
-    let before = still_before tokens at toks e (omega arith) in
+goes_rule tokens marks r a ps kinds mid next inside later fits inner picks some less pieces first second at l qs items had more g e room led whole s =
+    let before = still_before tokens at kinds e (omega arith) in
     let told : l.whole ≡ followed had (followed (made r inside) (followed later more)) = whole ∙ ap (followed had) (followed_twice (made r inside) later more) in
     let wide = room_more l ps qs items later more pieces room in
     let o = open_rule tokens marks at g l r a (coming l ps items) had inside (followed later more) before (picks at e before) told (λ h. wide.pieces (led_first (part.Rule r) (ps ++ qs) led h)) s in

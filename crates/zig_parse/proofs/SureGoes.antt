@@ -45,53 +45,53 @@ abbrev Follows : Bool → List Bool → Type 0
 Follows second [] = Unit {0}
 Follows second (c ∷ cs) = (second ≡ c) × Follows second cs
 
-follows : (tokens : List Token) (marks : List Bool) (at : ℕ) (toks : List TokenKind) (cs : List Bool) → toks ≡ left_from tokens at → at < length tokens → Agrees tokens marks (noted toks cs) → Follows (is_second marks at) cs
-follows tokens marks at toks [] e h a = tt
-follows tokens marks at toks (c ∷ cs) e h a =
-    let number : length tokens - length toks ≡ at = omega (arith, length-drop at (kinds_of tokens), kinds_length tokens, ap (λ (x : List TokenKind). length x) e) in
-    (sym (ap (is_second marks) number) ∙ a.0, follows tokens marks at toks cs e h a.1)
+follows : (tokens : List Token) (marks : List Bool) (at : ℕ) (kinds : List TokenKind) (cs : List Bool) → kinds ≡ left_from tokens at → at < length tokens → Agrees tokens marks (noted kinds cs) → Follows (is_second marks at) cs
+follows tokens marks at kinds [] e h a = tt
+follows tokens marks at kinds (c ∷ cs) e h a =
+    let number : length tokens - length kinds ≡ at = omega (arith, length-drop at (kinds_of tokens), kinds_length tokens, ap (λ (x : List TokenKind). length x) e) in
+    (sym (ap (is_second marks) number) ∙ a.0, follows tokens marks at kinds cs e h a.1)
 
-taken_among : (later : List Part) (toks end : List TokenKind) (rows : List Alternative) (a : Alternative) (cs : List Bool) → Taken later toks end rows a cs → Among a rows
-taken_among later toks end rows a cs (taken_sole _) = inl refl
-taken_among later toks end rows a cs (taken_first _ b) = inl refl
-taken_among later toks end rows a cs (taken_second _ b never) = inr (inl refl)
+taken_among : (later : List Part) (kinds end : List TokenKind) (rows : List Alternative) (a : Alternative) (cs : List Bool) → Taken later kinds end rows a cs → Among a rows
+taken_among later kinds end rows a cs (taken_sole _) = inl refl
+taken_among later kinds end rows a cs (taken_first _ b) = inl refl
+taken_among later kinds end rows a cs (taken_second _ b never) = inr (inl refl)
 
-taken_picked : (second : Bool) (later : List Part) (toks end : List TokenKind) (rows : List Alternative) (a : Alternative) (cs : List Bool) → Taken later toks end rows a cs → Follows second cs → picked second (parts_in rows) ≡ Some a.parts
+taken_picked : (second : Bool) (later : List Part) (kinds end : List TokenKind) (rows : List Alternative) (a : Alternative) (cs : List Bool) → Taken later kinds end rows a cs → Follows second cs → picked second (parts_in rows) ≡ Some a.parts
 unfolding picked
-taken_picked second later toks end rows a cs (taken_sole _) f = refl
-taken_picked second later toks end rows a cs (taken_first _ b) f = ap (λ (x : Bool). Some (if x then b.parts else a.parts)) f.0
-taken_picked second later toks end rows a cs (taken_second _ b never) f = ap (λ (x : Bool). Some (if x then a.parts else b.parts)) f.0
+taken_picked second later kinds end rows a cs (taken_sole _) f = refl
+taken_picked second later kinds end rows a cs (taken_first _ b) f = ap (λ (x : Bool). Some (if x then b.parts else a.parts)) f.0
+taken_picked second later kinds end rows a cs (taken_second _ b never) f = ap (λ (x : Bool). Some (if x then a.parts else b.parts)) f.0
 
-picked_at : (tokens : List Token) (marks : List Bool) (at : ℕ) (toks : List TokenKind) (rows : List Alternative) → toks ≡ left_from tokens at → picked (is_second marks at) (choices (look_at tokens at) rows) ≡ picked (is_second marks at) (parts_in (open_at toks rows))
-picked_at tokens marks at toks rows e =
-    ap (λ (x : Look). picked (is_second marks at) (choices x rows)) (look_here tokens at ∙ ap here (sym e)) ∙ ap (picked (is_second marks at)) (choices_as toks rows)
+picked_at : (tokens : List Token) (marks : List Bool) (at : ℕ) (kinds : List TokenKind) (rows : List Alternative) → kinds ≡ left_from tokens at → picked (is_second marks at) (choices (look_at tokens at) rows) ≡ picked (is_second marks at) (parts_in (open_at kinds rows))
+picked_at tokens marks at kinds rows e =
+    ap (λ (x : Look). picked (is_second marks at) (choices x rows)) (look_here tokens at ∙ ap here (sym e)) ∙ ap (picked (is_second marks at)) (choices_as kinds rows)
 
-taken_picks : (tokens : List Token) (marks : List Bool) (later : List Part) (toks end : List TokenKind) (rows : List Alternative) (a : Alternative) (cs : List Bool) → Taken later toks end (open_at toks rows) a cs → Agrees tokens marks (noted toks cs)
-    → Picks tokens marks toks rows a
-taken_picks tokens marks later toks end rows a cs t h at e before =
-    picked_at tokens marks at toks rows e ∙ taken_picked (is_second marks at) later toks end (open_at toks rows) a cs t (follows tokens marks at toks cs e before h)
+taken_picks : (tokens : List Token) (marks : List Bool) (later : List Part) (kinds end : List TokenKind) (rows : List Alternative) (a : Alternative) (cs : List Bool) → Taken later kinds end (open_at kinds rows) a cs → Agrees tokens marks (noted kinds cs)
+    → Picks tokens marks kinds rows a
+taken_picks tokens marks later kinds end rows a cs t h at e before =
+    picked_at tokens marks at kinds rows e ∙ taken_picked (is_second marks at) later kinds end (open_at kinds rows) a cs t (follows tokens marks at kinds cs e before h)
 
-sole_picks : (tokens : List Token) (marks : List Bool) (toks : List TokenKind) (rows : List Alternative) (a : Alternative) → open_at toks rows ≡ a ∷ [] → Picks tokens marks toks rows a
+sole_picks : (tokens : List Token) (marks : List Bool) (kinds : List TokenKind) (rows : List Alternative) (a : Alternative) → open_at kinds rows ≡ a ∷ [] → Picks tokens marks kinds rows a
 unfolding picked
-sole_picks tokens marks toks rows a sole at e before = picked_at tokens marks at toks rows e ∙ ap (λ (x : List Alternative). picked (is_second marks at) (parts_in x)) sole
+sole_picks tokens marks kinds rows a sole at e before = picked_at tokens marks at kinds rows e ∙ ap (λ (x : List Alternative). picked (is_second marks at) (parts_in x)) sole
 
 sole_among : (a : Alternative) (rows : List Alternative) → rows ≡ a ∷ [] → Among a rows
 sole_among a rows e = subst (Among a) (sym e) (inl refl)
 
 -- ---- what is sure is derived
 
-pub sure_derives : (ps behind : List Part) (toks next end : List TokenKind) (p : Pieces) (forks : List Fork) → Sure ps behind toks next end p forks → Derives ps toks next p
-sure_derives ps behind toks next end p forks (sure_none _ _ _) = derives_none toks
-sure_derives ps behind toks next end p forks (sure_token k more _ after _ _ later _ d) = derives_token k more after next later (sure_derives more behind after next end later forks d)
-sure_derives ps behind toks next end p forks (sure_one_of c k more _ after _ _ later _ h d) = derives_one_of c k more after next later h (sure_derives more behind after next end later forks d)
-sure_derives ps behind toks next end p forks (sure_group g a more _ _ mid _ _ inside later cs inner outer h t d e) =
-    derives_group g a more toks mid next inside later (taken_among (more ++ behind) toks end (open_at toks (group_rows g)) a cs t) (sure_derives a.parts (more ++ behind) toks mid end inside inner d) (sure_derives more behind mid next end later outer e)
-sure_derives ps behind toks next end p forks (sure_rule r a more _ _ mid _ _ inside later cs inner outer h t d e) =
-    derives_rule r a more toks mid next inside later (taken_among (more ++ behind) toks end (open_at toks (rule_rows r)) a cs t) (sure_derives a.parts (more ++ behind) toks mid end inside inner d) (sure_derives more behind mid next end later outer e)
-sure_derives ps behind toks next end p forks (sure_group_apart g a more _ _ mid _ _ inside later inner outer h t d e) =
-    derives_group g a more toks mid next inside later (sole_among a (open_at toks (group_rows g)) t) (sure_derives a.parts [] toks mid mid inside inner d) (sure_derives more behind mid next end later outer e)
-sure_derives ps behind toks next end p forks (sure_rule_apart r a more _ _ mid _ _ inside later inner outer h t d e) =
-    derives_rule r a more toks mid next inside later (sole_among a (open_at toks (rule_rows r)) t) (sure_derives a.parts [] toks mid mid inside inner d) (sure_derives more behind mid next end later outer e)
+pub sure_derives : (ps behind : List Part) (kinds next end : List TokenKind) (p : Pieces) (forks : List Fork) → Sure ps behind kinds next end p forks → Derives ps kinds next p
+sure_derives ps behind kinds next end p forks (sure_none _ _ _) = derives_none kinds
+sure_derives ps behind kinds next end p forks (sure_token k more _ after _ _ later _ d) = derives_token k more after next later (sure_derives more behind after next end later forks d)
+sure_derives ps behind kinds next end p forks (sure_one_of c k more _ after _ _ later _ h d) = derives_one_of c k more after next later h (sure_derives more behind after next end later forks d)
+sure_derives ps behind kinds next end p forks (sure_group g a more _ _ mid _ _ inside later cs inner outer h t d e) =
+    derives_group g a more kinds mid next inside later (taken_among (more ++ behind) kinds end (open_at kinds (group_rows g)) a cs t) (sure_derives a.parts (more ++ behind) kinds mid end inside inner d) (sure_derives more behind mid next end later outer e)
+sure_derives ps behind kinds next end p forks (sure_rule r a more _ _ mid _ _ inside later cs inner outer h t d e) =
+    derives_rule r a more kinds mid next inside later (taken_among (more ++ behind) kinds end (open_at kinds (rule_rows r)) a cs t) (sure_derives a.parts (more ++ behind) kinds mid end inside inner d) (sure_derives more behind mid next end later outer e)
+sure_derives ps behind kinds next end p forks (sure_group_apart g a more _ _ mid _ _ inside later inner outer h t d e) =
+    derives_group g a more kinds mid next inside later (sole_among a (open_at kinds (group_rows g)) t) (sure_derives a.parts [] kinds mid mid inside inner d) (sure_derives more behind mid next end later outer e)
+sure_derives ps behind kinds next end p forks (sure_rule_apart r a more _ _ mid _ _ inside later inner outer h t d e) =
+    derives_rule r a more kinds mid next inside later (sole_among a (open_at kinds (rule_rows r)) t) (sure_derives a.parts [] kinds mid mid inside inner d) (sure_derives more behind mid next end later outer e)
 
 -- ---- the second pass goes through it
 
@@ -101,48 +101,48 @@ reads_token k look e = ap reading (ap (is_kind k) e ∙ eq-eqb (number_of k) (nu
 reads_class : (look : Look) (k : TokenKind) (test : TokenKind → Bool) → test k ≡ true → look.kind ≡ k → reading (test look.kind) ≡ move.Read
 reads_class look k test h e = ap (λ (x : TokenKind). reading (test x)) e ∙ ap reading h
 
-goes_group_as : (tokens : List Token) (marks : List Bool) (g : Group) (a : Alternative) (ps : List Part) (toks mid next : List TokenKind) (inside later : Pieces) → Among a (open_at toks (group_rows g)) → Picks tokens marks toks (group_rows g) a → 0 < length next
-    → Derives a.parts toks mid inside → Derives ps mid next later → Goes tokens marks a.parts toks mid inside → Goes tokens marks ps mid next later → Goes tokens marks (part.Group g ∷ ps) toks next (followed inside later)
-goes_group_as tokens marks g a ps toks mid next inside later among picks some first second go on =
-    goes_group tokens marks g a ps toks mid next inside later (open_is_row toks a (group_rows g) among) picks (omega (arith, no_longer a.parts toks mid inside first, no_longer ps mid next later second)) (λ h. piece_amount ps mid next later second h) go on
+goes_group_as : (tokens : List Token) (marks : List Bool) (g : Group) (a : Alternative) (ps : List Part) (kinds mid next : List TokenKind) (inside later : Pieces) → Among a (open_at kinds (group_rows g)) → Picks tokens marks kinds (group_rows g) a → 0 < length next
+    → Derives a.parts kinds mid inside → Derives ps mid next later → Goes tokens marks a.parts kinds mid inside → Goes tokens marks ps mid next later → Goes tokens marks (part.Group g ∷ ps) kinds next (followed inside later)
+goes_group_as tokens marks g a ps kinds mid next inside later among picks some first second go on =
+    goes_group tokens marks g a ps kinds mid next inside later (open_is_row kinds a (group_rows g) among) picks (omega (arith, no_longer a.parts kinds mid inside first, no_longer ps mid next later second)) (λ h. piece_amount ps mid next later second h) go on
 
-goes_rule_as : (tokens : List Token) (marks : List Bool) (r : Rule) (a : Alternative) (ps : List Part) (toks mid next : List TokenKind) (inside later : Pieces) → length tokens < 2 ^ 32 → Among a (open_at toks (rule_rows r)) → Picks tokens marks toks (rule_rows r) a → 0 < length next
-    → Derives a.parts toks mid inside → Derives ps mid next later → Goes tokens marks a.parts toks mid inside → Goes tokens marks ps mid next later → Goes tokens marks (part.Rule r ∷ ps) toks next (followed (made r inside) later)
-goes_rule_as tokens marks r a ps toks mid next inside later fits among picks some first second go on =
-    let is_row = open_is_row toks a (rule_rows r) among in
-    let less = reads_some a.parts toks mid inside first (row_tested row_fills a (rule_rows r) (rule_filled r) is_row) in
-    goes_rule tokens marks r a ps toks mid next inside later fits (row_tested row_led a (rule_rows r) (rule_led r) is_row) picks (omega (arith, no_longer ps mid next later second)) less (λ h. piece_amount ps mid next later second h) go on
+goes_rule_as : (tokens : List Token) (marks : List Bool) (r : Rule) (a : Alternative) (ps : List Part) (kinds mid next : List TokenKind) (inside later : Pieces) → length tokens < 2 ^ 32 → Among a (open_at kinds (rule_rows r)) → Picks tokens marks kinds (rule_rows r) a → 0 < length next
+    → Derives a.parts kinds mid inside → Derives ps mid next later → Goes tokens marks a.parts kinds mid inside → Goes tokens marks ps mid next later → Goes tokens marks (part.Rule r ∷ ps) kinds next (followed (made r inside) later)
+goes_rule_as tokens marks r a ps kinds mid next inside later fits among picks some first second go on =
+    let is_row = open_is_row kinds a (rule_rows r) among in
+    let less = reads_some a.parts kinds mid inside first (row_tested row_fills a (rule_rows r) (rule_filled r) is_row) in
+    goes_rule tokens marks r a ps kinds mid next inside later fits (row_tested row_led a (rule_rows r) (rule_led r) is_row) picks (omega (arith, no_longer ps mid next later second)) less (λ h. piece_amount ps mid next later second h) go on
 
-pub sure_goes : (tokens : List Token) (marks : List Bool) → length tokens < 2 ^ 32 → (ps behind : List Part) (toks next end : List TokenKind) (p : Pieces) (forks : List Fork) → Sure ps behind toks next end p forks → Agrees tokens marks forks → 0 < length next
-    → Goes tokens marks ps toks next p
-sure_goes tokens marks fits ps behind toks next end p forks (sure_none _ _ _) agree some = goes_none tokens marks toks
-sure_goes tokens marks fits ps behind toks next end p forks (sure_token k more _ after _ _ later _ d) agree some =
+pub sure_goes : (tokens : List Token) (marks : List Bool) → length tokens < 2 ^ 32 → (ps behind : List Part) (kinds next end : List TokenKind) (p : Pieces) (forks : List Fork) → Sure ps behind kinds next end p forks → Agrees tokens marks forks → 0 < length next
+    → Goes tokens marks ps kinds next p
+sure_goes tokens marks fits ps behind kinds next end p forks (sure_none _ _ _) agree some = goes_none tokens marks kinds
+sure_goes tokens marks fits ps behind kinds next end p forks (sure_token k more _ after _ _ later _ d) agree some =
     goes_token tokens marks (part.Token k) more k after next later fits (reads_token k) (sure_goes tokens marks fits more behind after next end later forks d agree some)
-sure_goes tokens marks fits ps behind toks next end p forks (sure_one_of c k more _ after _ _ later _ h d) agree some =
+sure_goes tokens marks fits ps behind kinds next end p forks (sure_one_of c k more _ after _ _ later _ h d) agree some =
     goes_token tokens marks (part.OneOf c) more k after next later fits (λ look e. reads_class look k (has_kind c) h e) (sure_goes tokens marks fits more behind after next end later forks d agree some)
-sure_goes tokens marks fits ps behind toks next end p forks (sure_group g a more _ _ mid _ _ inside later cs inner outer h t d e) agree some =
-    let s = agrees_split tokens marks (noted toks cs) (inner ++ outer) agree in
+sure_goes tokens marks fits ps behind kinds next end p forks (sure_group g a more _ _ mid _ _ inside later cs inner outer h t d e) agree some =
+    let s = agrees_split tokens marks (noted kinds cs) (inner ++ outer) agree in
     let u = agrees_split tokens marks inner outer s.1 in
-    let first = sure_derives a.parts (more ++ behind) toks mid end inside inner d in
+    let first = sure_derives a.parts (more ++ behind) kinds mid end inside inner d in
     let second = sure_derives more behind mid next end later outer e in
-    goes_group_as tokens marks g a more toks mid next inside later (taken_among (more ++ behind) toks end (open_at toks (group_rows g)) a cs t) (taken_picks tokens marks (more ++ behind) toks end (group_rows g) a cs t s.0) some first second
-    (sure_goes tokens marks fits a.parts (more ++ behind) toks mid end inside inner d u.0 (omega (arith, no_longer more mid next later second))) (sure_goes tokens marks fits more behind mid next end later outer e u.1 some)
-sure_goes tokens marks fits ps behind toks next end p forks (sure_rule r a more _ _ mid _ _ inside later cs inner outer h t d e) agree some =
-    let s = agrees_split tokens marks (noted toks cs) (inner ++ outer) agree in
+    goes_group_as tokens marks g a more kinds mid next inside later (taken_among (more ++ behind) kinds end (open_at kinds (group_rows g)) a cs t) (taken_picks tokens marks (more ++ behind) kinds end (group_rows g) a cs t s.0) some first second
+    (sure_goes tokens marks fits a.parts (more ++ behind) kinds mid end inside inner d u.0 (omega (arith, no_longer more mid next later second))) (sure_goes tokens marks fits more behind mid next end later outer e u.1 some)
+sure_goes tokens marks fits ps behind kinds next end p forks (sure_rule r a more _ _ mid _ _ inside later cs inner outer h t d e) agree some =
+    let s = agrees_split tokens marks (noted kinds cs) (inner ++ outer) agree in
     let u = agrees_split tokens marks inner outer s.1 in
-    let first = sure_derives a.parts (more ++ behind) toks mid end inside inner d in
+    let first = sure_derives a.parts (more ++ behind) kinds mid end inside inner d in
     let second = sure_derives more behind mid next end later outer e in
-    goes_rule_as tokens marks r a more toks mid next inside later fits (taken_among (more ++ behind) toks end (open_at toks (rule_rows r)) a cs t) (taken_picks tokens marks (more ++ behind) toks end (rule_rows r) a cs t s.0) some first second
-    (sure_goes tokens marks fits a.parts (more ++ behind) toks mid end inside inner d u.0 (omega (arith, no_longer more mid next later second))) (sure_goes tokens marks fits more behind mid next end later outer e u.1 some)
-sure_goes tokens marks fits ps behind toks next end p forks (sure_group_apart g a more _ _ mid _ _ inside later inner outer h t d e) agree some =
+    goes_rule_as tokens marks r a more kinds mid next inside later fits (taken_among (more ++ behind) kinds end (open_at kinds (rule_rows r)) a cs t) (taken_picks tokens marks (more ++ behind) kinds end (rule_rows r) a cs t s.0) some first second
+    (sure_goes tokens marks fits a.parts (more ++ behind) kinds mid end inside inner d u.0 (omega (arith, no_longer more mid next later second))) (sure_goes tokens marks fits more behind mid next end later outer e u.1 some)
+sure_goes tokens marks fits ps behind kinds next end p forks (sure_group_apart g a more _ _ mid _ _ inside later inner outer h t d e) agree some =
     let u = agrees_split tokens marks inner outer agree in
-    let first = sure_derives a.parts [] toks mid mid inside inner d in
+    let first = sure_derives a.parts [] kinds mid mid inside inner d in
     let second = sure_derives more behind mid next end later outer e in
-    goes_group_as tokens marks g a more toks mid next inside later (sole_among a (open_at toks (group_rows g)) t) (sole_picks tokens marks toks (group_rows g) a t) some first second
-    (sure_goes tokens marks fits a.parts [] toks mid mid inside inner d u.0 (omega (arith, no_longer more mid next later second))) (sure_goes tokens marks fits more behind mid next end later outer e u.1 some)
-sure_goes tokens marks fits ps behind toks next end p forks (sure_rule_apart r a more _ _ mid _ _ inside later inner outer h t d e) agree some =
+    goes_group_as tokens marks g a more kinds mid next inside later (sole_among a (open_at kinds (group_rows g)) t) (sole_picks tokens marks kinds (group_rows g) a t) some first second
+    (sure_goes tokens marks fits a.parts [] kinds mid mid inside inner d u.0 (omega (arith, no_longer more mid next later second))) (sure_goes tokens marks fits more behind mid next end later outer e u.1 some)
+sure_goes tokens marks fits ps behind kinds next end p forks (sure_rule_apart r a more _ _ mid _ _ inside later inner outer h t d e) agree some =
     let u = agrees_split tokens marks inner outer agree in
-    let first = sure_derives a.parts [] toks mid mid inside inner d in
+    let first = sure_derives a.parts [] kinds mid mid inside inner d in
     let second = sure_derives more behind mid next end later outer e in
-    goes_rule_as tokens marks r a more toks mid next inside later fits (sole_among a (open_at toks (rule_rows r)) t) (sole_picks tokens marks toks (rule_rows r) a t) some first second
-    (sure_goes tokens marks fits a.parts [] toks mid mid inside inner d u.0 (omega (arith, no_longer more mid next later second))) (sure_goes tokens marks fits more behind mid next end later outer e u.1 some)
+    goes_rule_as tokens marks r a more kinds mid next inside later fits (sole_among a (open_at kinds (rule_rows r)) t) (sole_picks tokens marks kinds (rule_rows r) a t) some first second
+    (sure_goes tokens marks fits a.parts [] kinds mid mid inside inner d u.0 (omega (arith, no_longer more mid next later second))) (sure_goes tokens marks fits more behind mid next end later outer e u.1 some)

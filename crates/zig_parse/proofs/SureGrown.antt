@@ -40,69 +40,69 @@ use Rattle.zig_parse.proofs.SureGoes.{Agrees, reads_token, sure_derives, sure_go
 
 -- ---- the root's parts
 
-sole_taken : (later : List Part) (toks end : List TokenKind) (rows : List Alternative) (a b : Alternative) (cs : List Bool) → Taken later toks end rows a cs → rows ≡ b ∷ [] → a ≡ b
-sole_taken later toks end rows a b cs (taken_sole _) e = cc
-sole_taken later toks end rows a b cs (taken_first _ c) e = absurd (cc)
-sole_taken later toks end rows a b cs (taken_second _ c never) e = absurd (cc)
+sole_taken : (later : List Part) (kinds end : List TokenKind) (rows : List Alternative) (a b : Alternative) (cs : List Bool) → Taken later kinds end rows a cs → rows ≡ b ∷ [] → a ≡ b
+sole_taken later kinds end rows a b cs (taken_sole _) e = cc
+sole_taken later kinds end rows a b cs (taken_first _ c) e = absurd (cc)
+sole_taken later kinds end rows a b cs (taken_second _ c never) e = absurd (cc)
 
-none_sure : (behind : List Part) (toks next end : List TokenKind) (p : Pieces) (forks : List Fork) → Sure [] behind toks next end p forks → (toks ≡ next) × (p ≡ nothing) × (forks ≡ [])
-none_sure behind toks next end p forks (sure_none _ _ _) = (refl, refl, refl)
+none_sure : (behind : List Part) (kinds next end : List TokenKind) (p : Pieces) (forks : List Fork) → Sure [] behind kinds next end p forks → (kinds ≡ next) × (p ≡ nothing) × (forks ≡ [])
+none_sure behind kinds next end p forks (sure_none _ _ _) = (refl, refl, refl)
 
-token_sure : (k : TokenKind) (behind : List Part) (toks next end : List TokenKind) (p : Pieces) (forks : List Fork) → Sure (part.Token k ∷ []) behind toks next end p forks → (toks ≡ k ∷ next) × (p ≡ word k nothing) × (forks ≡ [])
-token_sure k behind toks next end p forks (sure_token _ _ _ after _ _ later _ d) = let n = none_sure behind after next end later forks d in (ap (λ (x : List TokenKind). k ∷ x) n.0, ap (word k) n.1, n.2)
+token_sure : (k : TokenKind) (behind : List Part) (kinds next end : List TokenKind) (p : Pieces) (forks : List Fork) → Sure (part.Token k ∷ []) behind kinds next end p forks → (kinds ≡ k ∷ next) × (p ≡ word k nothing) × (forks ≡ [])
+token_sure k behind kinds next end p forks (sure_token _ _ _ after _ _ later _ d) = let n = none_sure behind after next end later forks d in (ap (λ (x : List TokenKind). k ∷ x) n.0, ap (word k) n.1, n.2)
 
 abbrev root_row : Alternative
 root_row = row (when.Always) (part.Group group.RootMembers ∷ part.Token End ∷ [])
 
 -- the members before the file's end
-record Members (toks : List TokenKind) (p : Pieces) (forks : List Fork) : Type 0 where
+record Members (kinds : List TokenKind) (p : Pieces) (forks : List Fork) : Type 0 where
   inside : Pieces
-  sure : Sure (part.Group group.RootMembers ∷ []) (part.Token End ∷ []) toks (End ∷ []) [] inside forks
+  sure : Sure (part.Group group.RootMembers ∷ []) (part.Token End ∷ []) kinds (End ∷ []) [] inside forks
   same : p ≡ followed inside (word End nothing)
 
-members_sure : (toks : List TokenKind) (p : Pieces) (forks : List Fork) → Sure (part.Group group.RootMembers ∷ part.Token End ∷ []) [] toks [] [] p forks → Members toks p forks
-members_sure toks p forks (sure_group _ a _ _ _ mid _ _ inside later cs inner outer h t d e) =
+members_sure : (kinds : List TokenKind) (p : Pieces) (forks : List Fork) → Sure (part.Group group.RootMembers ∷ part.Token End ∷ []) [] kinds [] [] p forks → Members kinds p forks
+members_sure kinds p forks (sure_group _ a _ _ _ mid _ _ inside later cs inner outer h t d e) =
     let last = token_sure End [] mid [] [] later outer e in
-    let sure = sure_group group.RootMembers a [] (part.Token End ∷ []) toks mid mid [] inside nothing cs inner [] h t d (sure_none (part.Token End ∷ []) mid []) in
-    let forks_as : noted toks cs ++ (inner ++ []) ≡ noted toks cs ++ (inner ++ outer) = ap (λ (x : List Fork). noted toks cs ++ (inner ++ x)) (sym last.2) in
+    let sure = sure_group group.RootMembers a [] (part.Token End ∷ []) kinds mid mid [] inside nothing cs inner [] h t d (sure_none (part.Token End ∷ []) mid []) in
+    let forks_as : noted kinds cs ++ (inner ++ []) ≡ noted kinds cs ++ (inner ++ outer) = ap (λ (x : List Fork). noted kinds cs ++ (inner ++ x)) (sym last.2) in
     record {
       inside = inside;
-      sure = subst (λ (x : List TokenKind). Sure (part.Group group.RootMembers ∷ []) (part.Token End ∷ []) toks x [] inside (noted toks cs ++ (inner ++ outer))) last.0
-          (subst (λ (x : Pieces). Sure (part.Group group.RootMembers ∷ []) (part.Token End ∷ []) toks mid [] x (noted toks cs ++ (inner ++ outer))) (followed_nothing inside)
-          (subst (Sure (part.Group group.RootMembers ∷ []) (part.Token End ∷ []) toks mid [] (followed inside nothing)) forks_as sure));
+      sure = subst (λ (x : List TokenKind). Sure (part.Group group.RootMembers ∷ []) (part.Token End ∷ []) kinds x [] inside (noted kinds cs ++ (inner ++ outer))) last.0
+          (subst (λ (x : Pieces). Sure (part.Group group.RootMembers ∷ []) (part.Token End ∷ []) kinds mid [] x (noted kinds cs ++ (inner ++ outer))) (followed_nothing inside)
+          (subst (Sure (part.Group group.RootMembers ∷ []) (part.Token End ∷ []) kinds mid [] (followed inside nothing)) forks_as sure));
       same = ap (followed inside) last.1;
     }
-members_sure toks p forks (sure_group_apart _ a _ _ _ mid _ _ inside later inner outer h t d e) = absurd (cc)
+members_sure kinds p forks (sure_group_apart _ a _ _ _ mid _ _ inside later inner outer h t d e) = absurd (cc)
 
-record RootSure (toks : List TokenKind) (tree : Pieces) (forks : List Fork) : Type 0 where
+record RootSure (kinds : List TokenKind) (tree : Pieces) (forks : List Fork) : Type 0 where
   p : Pieces
-  members : Members toks p forks
+  members : Members kinds p forks
   same : tree ≡ made rule.Root p
 
-root_parts : (toks : List TokenKind) (tree p later : Pieces) (mid : List TokenKind) (a : Alternative) (inner outer : List Fork) → a ≡ root_row → Sure a.parts [] toks mid [] p inner → Sure [] [] mid [] [] later outer → RootSure toks (followed (made rule.Root p) later) (inner ++ outer)
-root_parts toks tree p later mid a inner outer row_is d e =
+root_parts : (kinds : List TokenKind) (tree p later : Pieces) (mid : List TokenKind) (a : Alternative) (inner outer : List Fork) → a ≡ root_row → Sure a.parts [] kinds mid [] p inner → Sure [] [] mid [] [] later outer → RootSure kinds (followed (made rule.Root p) later) (inner ++ outer)
+root_parts kinds tree p later mid a inner outer row_is d e =
     let n = none_sure [] mid [] [] later outer e in
-    let parts = subst (λ (x : Alternative). Sure x.parts [] toks mid [] p inner) row_is d in
-    let all = subst (λ (x : List TokenKind). Sure root_row.parts [] toks x [] p inner) n.0 parts in
+    let parts = subst (λ (x : Alternative). Sure x.parts [] kinds mid [] p inner) row_is d in
+    let all = subst (λ (x : List TokenKind). Sure root_row.parts [] kinds x [] p inner) n.0 parts in
     let forks_as : inner ≡ inner ++ outer = sym (append-nil inner) ∙ ap (λ (x : List Fork). inner ++ x) (sym n.2) in
     record {
       p = p;
-      members = subst (Members toks p) forks_as (members_sure toks p inner all);
+      members = subst (Members kinds p) forks_as (members_sure kinds p inner all);
       same = ap (followed (made rule.Root p)) n.1 ∙ followed_nothing (made rule.Root p);
     }
 
-no_choice : (later : List Part) (toks end : List TokenKind) (rows : List Alternative) (a b : Alternative) (cs : List Bool) → Taken later toks end rows a cs → rows ≡ b ∷ [] → cs ≡ []
-no_choice later toks end rows a b cs (taken_sole _) e = refl
-no_choice later toks end rows a b cs (taken_first _ c) e = absurd (cc)
-no_choice later toks end rows a b cs (taken_second _ c never) e = absurd (cc)
+no_choice : (later : List Part) (kinds end : List TokenKind) (rows : List Alternative) (a b : Alternative) (cs : List Bool) → Taken later kinds end rows a cs → rows ≡ b ∷ [] → cs ≡ []
+no_choice later kinds end rows a b cs (taken_sole _) e = refl
+no_choice later kinds end rows a b cs (taken_first _ c) e = absurd (cc)
+no_choice later kinds end rows a b cs (taken_second _ c never) e = absurd (cc)
 
-root_sure : (toks : List TokenKind) (tree : Pieces) (forks : List Fork) → Sure (part.Rule rule.Root ∷ []) [] toks [] [] tree forks → RootSure toks tree forks
+root_sure : (kinds : List TokenKind) (tree : Pieces) (forks : List Fork) → Sure (part.Rule rule.Root ∷ []) [] kinds [] [] tree forks → RootSure kinds tree forks
 unfolding rule_rows is_braced
-root_sure toks tree forks (sure_rule _ a _ _ _ mid _ _ p later cs inner outer h t d e) =
-    let one = sole_taken [] toks [] (open_at toks (rule_rows rule.Root)) a root_row cs t refl in
-    let none = no_choice [] toks [] (open_at toks (rule_rows rule.Root)) a root_row cs t refl in
-    subst (λ (x : List Bool). RootSure toks (followed (made rule.Root p) later) (noted toks x ++ (inner ++ outer))) (sym none) (root_parts toks tree p later mid a inner outer one d e)
-root_sure toks tree forks (sure_rule_apart _ a _ _ _ mid _ _ p later inner outer h t d e) = absurd (cc)
+root_sure kinds tree forks (sure_rule _ a _ _ _ mid _ _ p later cs inner outer h t d e) =
+    let one = sole_taken [] kinds [] (open_at kinds (rule_rows rule.Root)) a root_row cs t refl in
+    let none = no_choice [] kinds [] (open_at kinds (rule_rows rule.Root)) a root_row cs t refl in
+    subst (λ (x : List Bool). RootSure kinds (followed (made rule.Root p) later) (noted kinds x ++ (inner ++ outer))) (sym none) (root_parts kinds tree p later mid a inner outer one d e)
+root_sure kinds tree forks (sure_rule_apart _ a _ _ _ mid _ _ p later inner outer h t d e) = absurd (cc)
 
 -- ---- the root is opened, and all tokens are read
 
