@@ -74,12 +74,12 @@ pub gathered : (tokens : List Token) (at : ℕ) (g : Grown) (l : Place) (items :
 gathered tokens at g l items s some = shut_by tokens at g l items s some s.f.solid refl
 
 -- how many nodes it is one in the other
-tall_part : (tokens : List Token) (at : ℕ) (g : Grown) (l : Place) (items : List Item) (s : State tokens at g l items l.whole) → l.from < at → part_height s.f ≡ height (made l.r l.whole)
-tall_part tokens at g l items s some = by s.f.solid refl
+tall_part : (tokens : List Token) (at : ℕ) (g : Grown) (l : Place) (items : List Item) (s : State tokens at g l items l.whole) → l.from < at → l.told ≡ true → part_height s.f ≡ height (made l.r l.whole)
+tall_part tokens at g l items s some t = by s.f.solid refl
   where
     by : (b : Bool) → s.f.solid ≡ b → (if b then one_more s.f.height else s.f.height) ≡ height (made l.r l.whole)
-    by true e = (let low = l.low in omega (arith, s.tall, ap height (s.solid e)))
-    by false e = (let lone = lone_node tokens at g l items s some e in omega (arith, s.tall, ap height lone.same))
+    by true e = (let low = l.low t in omega (arith, s.tall t, ap height (s.solid e)))
+    by false e = (let lone = lone_node tokens at g l items s some e in omega (arith, s.tall t, ap height lone.same))
 
 -- the state once it is closed
 pub record Gathered (tokens : List Token) (at : ℕ) (before after : Grown) (l : Place) (items : List Item) (had : Pieces) : Type 0 where
@@ -96,27 +96,26 @@ close_state tokens start at b g l r items had inside more news s waits e i grown
     let h = gathered tokens at g o items i some in
     let nodes = g.parts.nodes ++ h.more in
     let parts : Parts = record { nodes = nodes; kids = b.parts.kids ++ h.lone } in
-    let t = around g.thread i.f s.f l.fs in
+    let u = around g.thread i.f s.f l.fs in
     let nodes_as : nodes ≡ b.parts.nodes ++ (news ++ h.more) = ap (λ (x : List Node). x ++ h.more) grown ∙ append_assoc b.parts.nodes news h.more in
     let mine : Spells tokens nodes s.own l.from start had = subst (λ (x : List Node). Spells tokens x s.own l.from start had) (sym nodes_as) (spells_more tokens b.parts.nodes (news ++ h.more) s.own l.from start had s.spelled) in
     let within = spells_within tokens b.parts.nodes s.own l.from start had s.spelled in
-    let tall = tall_part tokens at g o items i some in
-    let state : State tokens at (record { thread = t; parts = parts }) l items (followed had (made r inside)) = record {
+    let state : State tokens at (record { thread = u; parts = parts }) l items (followed had (made r inside)) = record {
       f = with_part (part_height i.f) s.f;
       own = s.own ++ h.lone;
       rule_is = s.rule_is;
       frames = refl;
       items_are = i.items_are;
       kids = ap (λ (x : List Kid). x ++ h.lone) s.kids ∙ append_assoc l.others s.own h.lone;
-      depth = depth_as i.f.solid g.thread.depth b.thread.depth i.depth ∙ s.depth;
+      depth = λ t. depth_as i.f.solid g.thread.depth b.thread.depth (i.depth t) ∙ s.depth t;
       calm = i.calm;
       spelled = spells_joined tokens nodes s.own h.lone l.from start at had (made r inside) mine h.spelled;
       counted = omega (arith, s.counted, h.one, length-append s.own h.lone);
-      tall = omega (arith, s.tall, tall, height_followed had (made r inside));
+      tall = λ t. omega (arith, s.tall t, tall_part tokens at g o items i some t, height_followed had (made r inside));
       solid = s.solid;
       alone = λ x. ((s.alone x).0, inr (lone_piece tokens nodes s.own l.from start had (made r inside) mine (waits x) (made_one r inside)));
     } in
-    let is : shut tokens g ≡ record { thread = t; parts = parts } = shut_is tokens g i.f (s.f ∷ l.fs) i.frames ∙ both t parts (closed_around g.thread i.f s.f l.fs i.frames) h.same in
+    let is : shut tokens g ≡ record { thread = u; parts = parts } = shut_is tokens g i.f (s.f ∷ l.fs) i.frames ∙ both u parts (closed_around g.thread i.f s.f l.fs i.frames) h.same in
     subst (λ (x : Grown). Gathered tokens at b x l items (followed had (made r inside))) (sym is) (record { more = news ++ h.more; nodes = nodes_as; state = state })
   where
     both : {u : Thread} {ps : Parts} (t : Thread) (parts : Parts) → u ≡ t → ps ≡ parts → ◌≡◌ {A = Grown} (record { thread = u; parts = ps }) (record { thread = t; parts = parts })

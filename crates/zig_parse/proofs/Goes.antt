@@ -105,18 +105,18 @@ pub record After (tokens : List Token) (marks : List Bool) (at : ℕ) (g : Grown
   pub end : ℕ
   pub ends : next ≡ left_from tokens end
   pub last : Grown
-  pub run : Run tokens marks at g end last
+  pub run : Run l.told tokens marks at g end last
   pub more : List Node
   pub nodes : last.parts.nodes ≡ g.parts.nodes ++ more
   pub state : State tokens end last l items had
 
-pub after_run : (tokens : List Token) (marks : List Bool) (start at : ℕ) (b g : Grown) (l : Place) (items : List Item) (had : Pieces) (next : List TokenKind) (news : List Node) → Run tokens marks start b at g → g.parts.nodes ≡ b.parts.nodes ++ news
+pub after_run : (tokens : List Token) (marks : List Bool) (start at : ℕ) (b g : Grown) (l : Place) (items : List Item) (had : Pieces) (next : List TokenKind) (news : List Node) → Run l.told tokens marks start b at g → g.parts.nodes ≡ b.parts.nodes ++ news
     → After tokens marks at g l items had next → After tokens marks start b l items had next
 after_run tokens marks start at b g l items had next news r e a = record {
   end = a.end;
   ends = a.ends;
   last = a.last;
-  run = run_joined tokens marks start at a.end b g a.last r a.run;
+  run = run_joined l.told tokens marks start at a.end b g a.last r a.run;
   more = news ++ a.more;
   nodes = a.nodes ∙ ap (λ (x : List Node). x ++ a.more) e ∙ append_assoc b.parts.nodes news a.more;
   state = a.state;
@@ -192,7 +192,7 @@ goes_group tokens marks k a ps kinds mid next inside later among picks some piec
     let whole1 : l.whole ≡ followed had (followed inside (followed later more)) = whole ∙ ap (followed had) (followed_twice inside later more) in
     let a1 = first at l (ps ++ qs) (coming l ps items) had (followed later more) g1 e (room_more l ps qs items later more pieces room) (group_keeps_led k a (ps ++ qs) among led) whole1 s1 in
     let a2 = second a1.end l qs items (followed had inside) more a1.last a1.ends room (led_rest (part.Group k) (ps ++ qs) led) (whole1 ∙ sym (followed_twice had inside (followed later more))) a1.state in
-    let moves = run_moves at a1.end g a1.last before none (subst (λ (x : Grown). Run tokens marks at x a1.end a1.last) (sym to) a1.run) in
+    let moves = run_moves at a1.end g a1.last before none (subst (λ (x : Grown). Run l.told tokens marks at x a1.end a1.last) (sym to) a1.run) in
     subst (λ (x : Pieces). After tokens marks at g l items x next) (followed_twice had inside later) (after_run tokens marks at a1.end g a1.last l items (followed (followed had inside) later) next a1.more moves a1.nodes a2)
 
 -- ---- a rule
@@ -204,7 +204,7 @@ record Opened (tokens : List Token) (marks : List Bool) (at : ℕ) (g : Grown) (
   last : Grown
   nodes : last.parts.nodes ≡ b.parts.nodes ++ []
   nodes_before : b.parts.nodes ≡ g.parts.nodes
-  run : Run tokens marks at g at last
+  run : Run l.told tokens marks at g at last
   state : State tokens at last (opened_place tokens at b l r items had inside more met_as.state e) (coming (opened_place tokens at b l r items had inside more met_as.state e) ps items) nothing
 
 open_rule : (tokens : List Token) (marks : List Bool) (at : ℕ) (g : Grown) (l : Place) (r : Rule) (a : Alternative) (items : List Item) (had inside more : Pieces) → at < length tokens → picked (is_second marks at) (choices (look_at tokens at) (rule_rows r)) ≡ Some a.parts
@@ -225,7 +225,7 @@ open_rule tokens marks at g l r a items had inside more before pick e never s =
       last = last;
       nodes = sym (append-nil g.parts.nodes);
       nodes_before = refl;
-      run = run_moves at at g last before none (subst (λ (x : Grown). Run tokens marks at x at last) (sym to) (run_none at last));
+      run = run_moves at at g last before none (subst (λ (x : Grown). Run l.told tokens marks at x at last) (sym to) (run_none at last));
       state = open_state tokens at b l r a.parts items had inside more start.state e;
     }
 
@@ -249,8 +249,8 @@ close_rule tokens marks start g l r a ps qs items had inside later more mid e fi
       end = c.end;
       ends = c.ends;
       last = shut tokens c.last;
-      run = run_joined tokens marks start start c.end g o.last (shut tokens c.last) o.run (run_joined tokens marks start c.end c.end o.last c.last (shut tokens c.last) c.run
-          (run_moves c.end c.end c.last (shut tokens c.last) before m.1 (subst (λ (x : Grown). Run tokens marks c.end x c.end (shut tokens c.last)) (sym m.0) (run_none c.end (shut tokens c.last)))));
+      run = run_joined l.told tokens marks start start c.end g o.last (shut tokens c.last) o.run (run_joined l.told tokens marks start c.end c.end o.last c.last (shut tokens c.last) c.run
+          (run_moves c.end c.end c.last (shut tokens c.last) before m.1 (subst (λ (x : Grown). Run l.told tokens marks c.end x c.end (shut tokens c.last)) (sym m.0) (run_none c.end (shut tokens c.last)))));
       more = done.more;
       nodes = done.nodes ∙ ap (λ (x : List Node). x ++ done.more) o.nodes_before;
       state = done.state;

@@ -31,7 +31,7 @@ use Rattle.zig_parse.proofs.Sound.{next_at, level_same}
 use Rattle.zig_parse.proofs.Runs.{read_at}
 
 -- an open node: its rule, the nodes around it and how many of them are nodes of the tree for sure, its first
--- token, what those nodes hold, and all that it will hold itself
+-- token, what those nodes hold, and all that it will hold itself; and, where that is told, that no node lies too deep
 pub record Place : Type 0 where
   pub r : Rule
   pub fs : List Frame
@@ -39,7 +39,8 @@ pub record Place : Type 0 where
   pub from : ℕ
   pub others : List Kid
   pub whole : Pieces
-  pub low : below + height (made r whole) ≤ 200
+  pub told : Bool
+  pub low : told ≡ true → below + height (made r whole) ≤ 200
 
 -- what is to come in it, and after it
 abbrev pub coming : Place → List Part → List Item → List Item
@@ -53,11 +54,11 @@ pub record State (tokens : List Token) (at : ℕ) (g : Grown) (l : Place) (items
   pub frames : g.thread.frames ≡ f ∷ l.fs
   pub items_are : g.thread.items ≡ items
   pub kids : g.parts.kids ≡ l.others ++ own
-  pub depth : g.thread.depth ≡ l.below + count f.solid
-  pub calm : g.thread.deep ≡ false
+  pub depth : l.told ≡ true → g.thread.depth ≡ l.below + count f.solid
+  pub calm : l.told ≡ true → g.thread.deep ≡ false
   pub spelled : Spells tokens g.parts.nodes own l.from at had
   pub counted : f.parts ≡ length own
-  pub tall : f.height ≡ height had
+  pub tall : l.told ≡ true → f.height ≡ height had
   pub solid : f.solid ≡ true → made l.r l.whole ≡ node l.r l.whole nothing
   pub alone : f.solid ≡ false → (makes_no_node_alone l.r ≡ true) × ((had ≡ nothing) ⊎ (is_one_node had ≡ true))
 
@@ -78,19 +79,19 @@ or_none : (x y : Bool) → x ≡ false → y ≡ false → (x || y) ≡ false
 or_none true y h e = absurd (cc)
 or_none false y h e = e
 
-pub solid_low : (l : Place) → made l.r l.whole ≡ node l.r l.whole nothing → l.below + 1 + height l.whole ≤ 200
-solid_low l e = let h = l.low in omega (arith, ap height e)
+pub solid_low : (l : Place) → l.told ≡ true → made l.r l.whole ≡ node l.r l.whole nothing → l.below + 1 + height l.whole ≤ 200
+solid_low l t e = let h = l.low t in omega (arith, ap height e)
 
 pub had_low : (whole had more : Pieces) → whole ≡ followed had more → (height had ≤ height whole) × (height more ≤ height whole)
 had_low whole had more e = (omega (arith, ap height e, height_followed had more), omega (arith, ap height e, height_followed had more))
 
 -- whatever is made of what it will hold lies no deeper than 200
-pub within_low : (tokens : List Token) (at : ℕ) (g : Grown) (l : Place) (items : List Item) (had : Pieces) (s : State tokens at g l items had) → g.thread.depth + height l.whole ≤ 200
-within_low tokens at g l items had s = by s.f.solid s.depth s.solid
+pub within_low : (tokens : List Token) (at : ℕ) (g : Grown) (l : Place) (items : List Item) (had : Pieces) (s : State tokens at g l items had) → l.told ≡ true → g.thread.depth + height l.whole ≤ 200
+within_low tokens at g l items had s t = by s.f.solid (s.depth t) s.solid
   where
     by : (b : Bool) → g.thread.depth ≡ l.below + count b → (b ≡ true → made l.r l.whole ≡ node l.r l.whole nothing) → g.thread.depth + height l.whole ≤ 200
-    by true e h = (let low = solid_low l (h refl) in omega arith)
-    by false e h = (let low = l.low in omega (arith, made_tall l.r l.whole))
+    by true e h = (let low = solid_low l t (h refl) in omega arith)
+    by false e h = (let low = l.low t in omega (arith, made_tall l.r l.whole))
 
 -- ---- the next move
 
@@ -106,32 +107,38 @@ token_whole l had more k e = made_several l.r l.whole (subst (λ (x : Pieces). i
 record Read (tokens : List Token) (at : ℕ) (u : Thread) (l : Place) (f : Frame) (items : List Item) : Type 0 where
   frames : u.frames ≡ with_part 0 (record f { solid = true }) ∷ l.fs
   items_are : u.items ≡ items
-  depth : u.depth ≡ l.below + 1
-  calm : u.deep ≡ false
+  depth : l.told ≡ true → u.depth ≡ l.below + 1
+  calm : l.told ≡ true → u.deep ≡ false
 
 read_thread : (tokens : List Token) (at : ℕ) (g : Grown) (l : Place) (q : Part) (items : List Item) (had more : Pieces) (k : TokenKind) (s : State tokens at g l (item (suc (length l.fs)) q ∷ items) had) → l.whole ≡ followed had (word k more) → (b : Bool) → s.f.solid ≡ b
     → Read tokens at (with_gain 0 (if b then record (passed g.thread) { deep = g.thread.deep || is_deep g.thread.depth 0 } else hardened s.f (passed g.thread))) l s.f items
 unfolding hardened
-read_thread tokens at g l q items had more k s e true solid =
-    let low = solid_low l (token_whole l had more k e) in
-    let deep : g.thread.depth ≡ l.below + 1 = s.depth ∙ ap (λ (b : Bool). l.below + count b) solid in
-    record {
-      frames = ap (gained 0) s.frames ∙ ap (λ (b : Bool). with_part 0 (record s.f { solid = b }) ∷ l.fs) solid;
-      items_are = ap rest s.items_are;
-      depth = deep;
-      calm = or_none g.thread.deep (is_deep g.thread.depth 0) s.calm (not_deep g.thread.depth 0 (omega arith));
-    }
-read_thread tokens at g l q items had more k s e false solid =
-    let low = solid_low l (token_whole l had more k e) in
-    let under = had_low l.whole had (word k more) e in
-    let deep : g.thread.depth ≡ l.below + 0 = s.depth ∙ ap (λ (b : Bool). l.below + count b) solid in
-    let deeper : one_more g.thread.depth ≡ l.below + 1 = omega arith in
-    record {
-      frames = ap (λ (x : List Frame). gained 0 (with_first (record s.f { solid = true }) x)) s.frames;
-      items_are = ap rest s.items_are;
-      depth = deeper;
-      calm = or_none g.thread.deep (is_deep (one_more g.thread.depth) s.f.height) s.calm (not_deep (one_more g.thread.depth) s.f.height (omega (arith, s.tall, under.0)));
-    }
+read_thread tokens at g l q items had more k s e true solid = record {
+  frames = ap (gained 0) s.frames ∙ ap (λ (b : Bool). with_part 0 (record s.f { solid = b }) ∷ l.fs) solid;
+  items_are = ap rest s.items_are;
+  depth = λ t. s.depth t ∙ ap (λ (b : Bool). l.below + count b) solid;
+  calm = λ t. (
+      let low = solid_low l t (token_whole l had more k e) in
+      let deep : g.thread.depth ≡ l.below + 1 = s.depth t ∙ ap (λ (b : Bool). l.below + count b) solid in
+      or_none g.thread.deep (is_deep g.thread.depth 0) (s.calm t) (not_deep g.thread.depth 0 (omega arith))
+      );
+}
+read_thread tokens at g l q items had more k s e false solid = record {
+  frames = ap (λ (x : List Frame). gained 0 (with_first (record s.f { solid = true }) x)) s.frames;
+  items_are = ap rest s.items_are;
+  depth = λ t. (
+      let low = solid_low l t (token_whole l had more k e) in
+      let deep : g.thread.depth ≡ l.below + 0 = s.depth t ∙ ap (λ (b : Bool). l.below + count b) solid in
+      omega arith
+      );
+  calm = λ t. (
+      let low = solid_low l t (token_whole l had more k e) in
+      let under = had_low l.whole had (word k more) e in
+      let deep : g.thread.depth ≡ l.below + 0 = s.depth t ∙ ap (λ (b : Bool). l.below + count b) solid in
+      let deeper : one_more g.thread.depth ≡ l.below + 1 = omega arith in
+      or_none g.thread.deep (is_deep (one_more g.thread.depth) s.f.height) (s.calm t) (not_deep (one_more g.thread.depth) s.f.height (omega (arith, s.tall t, under.0)))
+      );
+}
 
 read_is : (tokens : List Token) (at : ℕ) (g : Grown) (l : Place) (q : Part) (items : List Item) (had more : Pieces) (k : TokenKind) (s : State tokens at g l (item (suc (length l.fs)) q ∷ items) had) → l.whole ≡ followed had (word k more)
     → Read tokens at (after_read g.thread) l s.f items
@@ -140,7 +147,7 @@ read_is tokens at g l q items had more k s e =
     subst (λ (x : List Frame). Read tokens at (with_gain 0 (touched_from (passed g.thread) x)) l s.f items) (sym s.frames) (read_thread tokens at g l q items had more k s e s.f.solid refl)
 
 pub read_calm : (tokens : List Token) (at : ℕ) (g : Grown) (l : Place) (q : Part) (items : List Item) (had more : Pieces) (k : TokenKind) → State tokens at g l (item (suc (length l.fs)) q ∷ items) had → l.whole ≡ followed had (word k more)
-    → (after_read g.thread).deep ≡ false
+    → l.told ≡ true → (after_read g.thread).deep ≡ false
 read_calm tokens at g l q items had more k s e = (read_is tokens at g l q items had more k s e).calm
 
 pub read_state : (tokens : List Token) (at : ℕ) (g : Grown) (l : Place) (q : Part) (items : List Item) (had more : Pieces) (k : Token) → length tokens < 2 ^ 32 → at < length tokens → slice_get tokens at ≡ Some k
@@ -160,7 +167,7 @@ read_state tokens at g l q items had more k fits inside there s e =
       calm = r.calm;
       spelled = spells_joined tokens g.parts.nodes s.own (kid.Token at ∷ []) l.from at (at + 1) had (word k.kind nothing) s.spelled (spells_token at (at + 1) k [] nothing there (spells_nothing (at + 1)));
       counted = omega (arith, s.counted, length-append s.own (kid.Token at ∷ []));
-      tall = omega (arith, s.tall, height_followed had (word k.kind nothing));
+      tall = λ t. omega (arith, s.tall t, height_followed had (word k.kind nothing));
       solid = λ h. token_whole l had more k.kind e;
       alone = λ h. absurd (cc);
     }
@@ -219,10 +226,6 @@ met_hard : (tokens : List Token) (at : ℕ) (g : Grown) (l : Place) (r : Rule) (
 unfolding hardened
 met_hard tokens at g l r items had more s soft e many =
     let hard = made_several l.r l.whole many in
-    let low = solid_low l hard in
-    let under = had_low l.whole had more e in
-    let deep : g.thread.depth ≡ l.below + 0 = s.depth ∙ ap (λ (b : Bool). l.below + count b) soft in
-    let deeper : one_more g.thread.depth ≡ l.below + 1 = omega arith in
     record {
       state = record {
         f = record s.f { solid = true };
@@ -231,8 +234,18 @@ met_hard tokens at g l r items had more s soft e many =
         frames = ap (with_first (record s.f { solid = true })) s.frames;
         items_are = ap rest s.items_are;
         kids = s.kids;
-        depth = deeper;
-        calm = or_none g.thread.deep (is_deep (one_more g.thread.depth) s.f.height) s.calm (not_deep (one_more g.thread.depth) s.f.height (omega (arith, s.tall, under.0)));
+        depth = λ t. (
+            let low = solid_low l t hard in
+            let deep : g.thread.depth ≡ l.below + 0 = s.depth t ∙ ap (λ (b : Bool). l.below + count b) soft in
+            omega arith
+            );
+        calm = λ t. (
+            let low = solid_low l t hard in
+            let under = had_low l.whole had more e in
+            let deep : g.thread.depth ≡ l.below + 0 = s.depth t ∙ ap (λ (b : Bool). l.below + count b) soft in
+            let deeper : one_more g.thread.depth ≡ l.below + 1 = omega arith in
+            or_none g.thread.deep (is_deep (one_more g.thread.depth) s.f.height) (s.calm t) (not_deep (one_more g.thread.depth) s.f.height (omega (arith, s.tall t, under.0)))
+            );
         spelled = s.spelled;
         counted = s.counted;
         tall = s.tall;
@@ -275,8 +288,9 @@ opened_place tokens at g l r items had inside more s e = record {
   from = at;
   others = g.parts.kids;
   whole = inside;
-  low = (
-      let all = within_low tokens at g l items had s in
+  told = l.told;
+  low = λ t. (
+      let all = within_low tokens at g l items had s t in
       let under = had_low l.whole had (followed (made r inside) more) e in
       omega (arith, under.1, height_followed (made r inside) more)
       );
@@ -287,7 +301,6 @@ pub open_state : (tokens : List Token) (at : ℕ) (g : Grown) (l : Place) (r : R
 unfolding put opened opened_place
 open_state tokens at g l r ps items had inside more s e =
     let f : Frame = record { rule = r; parts = 0; height = 0; solid = not (collapses r) } in
-    let all = within_low tokens at g l items had s in
     let lone = same_lone r in
     record {
       f = f;
@@ -296,11 +309,11 @@ open_state tokens at g l r ps items had inside more s e =
       frames = ap (λ (x : List Frame). f ∷ x) s.frames;
       items_are = ap (λ (x : List Frame). map (item (length (f ∷ x))) ps ++ g.thread.items) s.frames ∙ ap (λ (x : List Item). map (item (suc (suc (length l.fs)))) ps ++ x) s.items_are;
       kids = sym (append-nil g.parts.kids);
-      depth = opened_depth (collapses r) g.thread.depth (omega arith);
+      depth = λ t. (let all = within_low tokens at g l items had s t in opened_depth (collapses r) g.thread.depth (omega arith));
       calm = s.calm;
       spelled = spells_nothing at;
       counted = refl;
-      tall = refl;
+      tall = λ t. refl;
       solid = λ h. made_always r inside (sym lone ∙ not-true (collapses r) h);
       alone = λ h. (sym lone ∙ not_false (collapses r) h, inl refl);
     }

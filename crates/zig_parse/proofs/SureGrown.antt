@@ -32,7 +32,7 @@ use Rattle.zig_parse.proofs.Tokens.{all_read_end}
 use Rattle.zig_parse.proofs.Sound.{shut_is}
 use Rattle.zig_parse.proofs.Ways.{Fork, Sure, Taken, noted, sure_none, sure_token, sure_group, sure_rule, sure_group_apart, sure_rule_apart, taken_sole, taken_first, taken_second}
 use Rattle.zig_parse.proofs.SpelledOnce.{spells_same}
-use Rattle.zig_parse.proofs.Runs.{run_read, run_within}
+use Rattle.zig_parse.proofs.Runs.{run_read, run_whole, run_within}
 use Rattle.zig_parse.proofs.Growing.{Place, State, coming}
 use Rattle.zig_parse.proofs.Gathered.{gathered}
 use Rattle.zig_parse.proofs.Goes.{After, Goes, after_run, kinds_length, token_after}
@@ -106,41 +106,45 @@ root_sure kinds tree forks (sure_rule_apart _ a _ _ _ mid _ _ p later inner oute
 
 -- ---- the root is opened, and all tokens are read
 
-abbrev root_place : (p : Pieces) → 0 + height (made rule.Root p) ≤ 200 → Place
-root_place p low = record { r = rule.Root; fs = []; below = 0; from = 0; others = []; whole = p; low = low }
+-- where it is told, no node of these pieces in the root lies too deep
+abbrev Low : Bool → Pieces → Type 0
+Low told p = told ≡ true → 0 + height (made rule.Root p) ≤ 200
 
-sprout_state : (tokens : List Token) (p : Pieces) (low : 0 + height (made rule.Root p) ≤ 200) → State tokens 0 (sprout (look_at tokens 0)) (root_place p low) (coming (root_place p low) root_row.parts []) nothing
+abbrev root_place : (told : Bool) (p : Pieces) → Low told p → Place
+root_place told p low = record { r = rule.Root; fs = []; below = 0; from = 0; others = []; whole = p; told = told; low = low }
+
+sprout_state : (tokens : List Token) (told : Bool) (p : Pieces) (low : Low told p) → State tokens 0 (sprout (look_at tokens 0)) (root_place told p low) (coming (root_place told p low) root_row.parts []) nothing
 unfolding sprout begun choices matching rule_rows put opened fresh collapses
-sprout_state tokens p low = record {
+sprout_state tokens told p low = record {
   f = record { rule = rule.Root; parts = 0; height = 0; solid = true };
   own = [];
   rule_is = refl;
   frames = refl;
   items_are = refl;
   kids = refl;
-  depth = refl;
-  calm = refl;
+  depth = λ t. refl;
+  calm = λ t. refl;
   spelled = spells_nothing 0;
   counted = refl;
-  tall = refl;
+  tall = λ t. refl;
   solid = λ h. refl;
   alone = λ h. absurd (cc);
 }
 
-all_gone : (tokens : List Token) (marks : List Bool) (p inside : Pieces) (low : 0 + height (made rule.Root p) ≤ 200) → length tokens < 2 ^ 32 → p ≡ followed inside (word End nothing) → Goes tokens marks (part.Group group.RootMembers ∷ []) (kinds_of tokens) (End ∷ []) inside
-    → After tokens marks 0 (sprout (look_at tokens 0)) (root_place p low) [] p []
-all_gone tokens marks p inside low fits e go =
-    let l = root_place p low in
+all_gone : (tokens : List Token) (marks : List Bool) (told : Bool) (p inside : Pieces) (low : Low told p) → length tokens < 2 ^ 32 → p ≡ followed inside (word End nothing) → Goes tokens marks (part.Group group.RootMembers ∷ []) (kinds_of tokens) (End ∷ []) inside
+    → After tokens marks 0 (sprout (look_at tokens 0)) (root_place told p low) [] p []
+all_gone tokens marks told p inside low fits e go =
+    let l = root_place told p low in
     let start = sprout (look_at tokens 0) in
     let end : Item = item 1 (part.Token End) in
-    let a = go 0 l (part.Token End ∷ []) (end ∷ []) nothing (word End nothing) start refl (record { i = end; is = []; some = refl; level = omega arith; pieces = λ h. omega arith }) refl e (sprout_state tokens p low) in
+    let a = go 0 l (part.Token End ∷ []) (end ∷ []) nothing (word End nothing) start refl (record { i = end; is = []; some = refl; level = omega arith; pieces = λ h. omega arith }) refl e (sprout_state tokens told p low) in
     let b = token_after tokens marks (part.Token End) End [] fits (reads_token End) a.end l [] inside nothing a.last a.ends e a.state in
     subst (λ (x : Pieces). After tokens marks 0 start l [] x []) (sym e) (after_run tokens marks 0 a.end start a.last l [] (followed inside (word End nothing)) [] a.more a.run a.nodes b)
 
 -- ---- the root is closed
 
-root_solid : (tokens : List Token) (at : ℕ) (g : Grown) (p : Pieces) (low : 0 + height (made rule.Root p) ≤ 200) (items : List Item) (had : Pieces) (s : State tokens at g (root_place p low) items had) → s.f.solid ≡ true
-root_solid tokens at g p low items had s = by s.f.solid s.alone
+root_solid : (tokens : List Token) (at : ℕ) (g : Grown) (told : Bool) (p : Pieces) (low : Low told p) (items : List Item) (had : Pieces) (s : State tokens at g (root_place told p low) items had) → s.f.solid ≡ true
+root_solid tokens at g told p low items had s = by s.f.solid s.alone
   where
     by : (b : Bool) → (b ≡ false → (makes_no_node_alone rule.Root ≡ true) × ((had ≡ nothing) ⊎ (is_one_node had ≡ true))) → b ≡ true
     by true h = refl
@@ -160,12 +164,12 @@ pub record GrownAs (tokens : List Token) (given : Result (List Node) SyntaxFault
   pub grows : given ≡ Ok nodes
   pub spelled : Spells tokens nodes (kid.Node (length nodes - 1) ∷ []) 0 (length tokens) tree
 
-root_nodes : (tokens : List Token) (g : Grown) (p : Pieces) (low : 0 + height (made rule.Root p) ≤ 200) → 0 < length tokens → State tokens (length tokens) g (root_place p low) [] p → GrownAs tokens (nodes_or (length tokens) (shut tokens g).parts.nodes) (made rule.Root p)
-root_nodes tokens g p low some s =
-    let l = root_place p low in
+root_nodes : (tokens : List Token) (g : Grown) (told : Bool) (p : Pieces) (low : Low told p) → 0 < length tokens → State tokens (length tokens) g (root_place told p low) [] p → GrownAs tokens (nodes_or (length tokens) (shut tokens g).parts.nodes) (made rule.Root p)
+root_nodes tokens g told p low some s =
+    let l = root_place told p low in
     let h = gathered tokens (length tokens) g l [] s some in
     let nodes = g.parts.nodes ++ h.more in
-    let last = h.last (root_solid tokens (length tokens) g p low [] p s) in
+    let last = h.last (root_solid tokens (length tokens) g told p low [] p s) in
     let nodes_as : (shut tokens g).parts.nodes ≡ nodes = ap (λ (x : Grown). x.parts.nodes) (shut_is tokens g s.f [] s.frames) ∙ ap (λ (x : Parts). x.nodes) h.same in
     let longer : length nodes ≡ length g.parts.nodes + 1 = omega (arith, length-append g.parts.nodes h.more, last.1) in
     let number : length g.parts.nodes ≡ length nodes - 1 = omega arith in
@@ -188,37 +192,83 @@ whole_is tokens g f ei ef =
 
 -- ---- the whole pass
 
-read_whole : (tokens : List Token) (marks : List Bool) (p : Pieces) (low : 0 + height (made rule.Root p) ≤ 200) → 0 < length tokens → After tokens marks 0 (sprout (look_at tokens 0)) (root_place p low) [] p [] → GrownAs tokens (grown_from tokens marks) (made rule.Root p)
+-- all tokens are read where the pass makes these moves
+ends_last : (tokens : List Token) (marks : List Bool) (told : Bool) (p : Pieces) (low : Low told p) (a : After tokens marks 0 (sprout (look_at tokens 0)) (root_place told p low) [] p []) → a.end ≡ length tokens
+ends_last tokens marks told p low a =
+    let within = run_within told tokens marks 0 a.end (sprout (look_at tokens 0)) a.last a.run (omega arith) in
+    omega (arith, length-drop a.end (kinds_of tokens), kinds_length tokens, ap (λ (x : List TokenKind). length x) a.ends)
+
+read_whole : (tokens : List Token) (marks : List Bool) (told : Bool) (p : Pieces) (low : Low told p) → 0 < length tokens → (a : After tokens marks 0 (sprout (look_at tokens 0)) (root_place told p low) [] p [])
+    → all_read (length tokens) 0 tokens marks (sprout (look_at tokens 0)) ≡ Ok a.last → GrownAs tokens (grown_from tokens marks) (made rule.Root p)
 unfolding grown_from
-read_whole tokens marks p low some a =
-    let start = sprout (look_at tokens 0) in
-    let within = run_within tokens marks 0 a.end start a.last a.run (omega arith) in
-    let end : a.end ≡ length tokens = omega (arith, length-drop a.end (kinds_of tokens), kinds_length tokens, ap (λ (x : List TokenKind). length x) a.ends) in
-    let s = subst (λ (n : ℕ). State tokens n a.last (root_place p low) [] p) end a.state in
-    let all : length tokens - 0 ≡ length tokens = omega arith in
-    let read : all_read (length tokens) 0 tokens marks start ≡ Ok a.last =
-    ap (λ (n : ℕ). all_read n 0 tokens marks start) (sym all) ∙ run_read tokens marks 0 a.end start a.last a.run ∙ all_read_end (length tokens) a.end tokens marks a.last (omega arith) in
-    let g = root_nodes tokens a.last p low some s in
+read_whole tokens marks told p low some a read =
+    let s = subst (λ (n : ℕ). State tokens n a.last (root_place told p low) [] p) (ends_last tokens marks told p low a) a.state in
+    let g = root_nodes tokens a.last told p low some s in
     record {
       nodes = g.nodes;
       grows = ap (λ (r : Result Grown SyntaxFault). r >>= λ x. whole (length tokens) tokens x) read ∙ whole_is tokens a.last s.f s.items_are s.frames ∙ g.grows;
       spelled = g.spelled;
     }
 
+told_read : (tokens : List Token) (marks : List Bool) (p : Pieces) (low : Low true p) (a : After tokens marks 0 (sprout (look_at tokens 0)) (root_place true p low) [] p []) → all_read (length tokens) 0 tokens marks (sprout (look_at tokens 0)) ≡ Ok a.last
+told_read tokens marks p low a =
+    let start = sprout (look_at tokens 0) in
+    let end = ends_last tokens marks true p low a in
+    let all : length tokens - 0 ≡ length tokens = omega arith in
+    ap (λ (n : ℕ). all_read n 0 tokens marks start) (sym all) ∙ run_read tokens marks 0 a.end start a.last a.run ∙ all_read_end (length tokens) a.end tokens marks a.last (omega arith)
+
+first_grown : (r : Result Grown SyntaxFault) (f : Grown → Result (List Node) SyntaxFault) (nodes : List Node) → (r >>= f) ≡ Ok nodes → (g : Grown) × (r ≡ Ok g)
+first_grown (Ok g) f nodes e = (g, refl)
+first_grown (Err x) f nodes e = absurd (cc)
+
+-- where the pass gives nodes it has read all tokens, and made the same moves
+loose_read : (tokens : List Token) (marks : List Bool) (told : Bool) (p : Pieces) (low : Low told p) (nodes : List Node) (a : After tokens marks 0 (sprout (look_at tokens 0)) (root_place told p low) [] p []) → grown_from tokens marks ≡ Ok nodes
+    → all_read (length tokens) 0 tokens marks (sprout (look_at tokens 0)) ≡ Ok a.last
+unfolding grown_from
+loose_read tokens marks told p low nodes a e =
+    let start = sprout (look_at tokens 0) in
+    let end = ends_last tokens marks told p low a in
+    let all : length tokens - 0 ≡ length tokens = omega arith in
+    let first = first_grown (all_read (length tokens) 0 tokens marks start) (λ g. whole (length tokens) tokens g) nodes e in
+    let last = run_whole told tokens marks 0 a.end start a.last first.0 a.run (ap (λ (n : ℕ). all_read n 0 tokens marks start) all ∙ first.1) in
+    let same : a.last ≡ first.0 = (let both : Ok a.last ≡ Ok first.0 = sym (all_read_end (length tokens) a.end tokens marks a.last (omega arith)) ∙ last in cc) in
+    first.1 ∙ ap (λ (g : Grown). Ok g) (sym same)
+
 members_some : (tokens : List Token) (marks : List Bool) (forks : List Fork) (inside : Pieces) → length tokens < 2 ^ 32 → Sure (part.Group group.RootMembers ∷ []) (part.Token End ∷ []) (kinds_of tokens) (End ∷ []) [] inside forks → 0 < length tokens
 members_some tokens marks forks inside fits s =
     omega (arith, kinds_length tokens, no_longer (part.Group group.RootMembers ∷ []) (kinds_of tokens) (End ∷ []) inside (sure_derives (part.Group group.RootMembers ∷ []) (part.Token End ∷ []) (kinds_of tokens) (End ∷ []) [] inside forks s))
+
+-- the root of a sure tree, once all tokens are read
+record RootRead (tokens : List Token) (marks : List Bool) (told : Bool) (tree : Pieces) : Type 0 where
+  p : Pieces
+  same : tree ≡ made rule.Root p
+  some : 0 < length tokens
+  low : Low told p
+  after : After tokens marks 0 (sprout (look_at tokens 0)) (root_place told p low) [] p []
+
+root_read : (told : Bool) (tokens : List Token) (tree : Pieces) (forks : List Fork) (marks : List Bool) → length tokens < 2 ^ 32 → Sure (part.Rule rule.Root ∷ []) [] (kinds_of tokens) [] [] tree forks → Agrees tokens marks forks → (told ≡ true → height tree ≤ 200)
+    → RootRead tokens marks told tree
+root_read told tokens tree forks marks fits s agree low =
+    let r = root_sure (kinds_of tokens) tree forks s in
+    let m = r.members in
+    let lower : Low told r.p = λ t. (let l = low t in omega (arith, ap height r.same)) in
+    let some = members_some tokens marks forks m.inside fits m.sure in
+    let go = sure_goes tokens marks fits (part.Group group.RootMembers ∷ []) (part.Token End ∷ []) (kinds_of tokens) (End ∷ []) [] m.inside forks m.sure agree (omega arith) in
+    record { p = r.p; same = r.same; some = some; low = lower; after = all_gone tokens marks told r.p m.inside lower fits m.same go }
 
 -- the second pass gives nodes that spell the tree
 pub sure_grown : (tokens : List Token) (tree : Pieces) (forks : List Fork) (marks : List Bool) → length tokens < 2 ^ 32 → Sure (part.Rule rule.Root ∷ []) [] (kinds_of tokens) [] [] tree forks → Agrees tokens marks forks → height tree ≤ 200
     → GrownAs tokens (grown_from tokens marks) tree
 sure_grown tokens tree forks marks fits s agree low =
-    let r = root_sure (kinds_of tokens) tree forks s in
-    let m = r.members in
-    let lower : 0 + height (made rule.Root r.p) ≤ 200 = omega (arith, ap height r.same) in
-    let some = members_some tokens marks forks m.inside fits m.sure in
-    let go = sure_goes tokens marks fits (part.Group group.RootMembers ∷ []) (part.Token End ∷ []) (kinds_of tokens) (End ∷ []) [] m.inside forks m.sure agree (omega arith) in
-    subst (GrownAs tokens (grown_from tokens marks)) (sym r.same) (read_whole tokens marks r.p lower some (all_gone tokens marks r.p m.inside lower fits m.same go))
+    let r = root_read true tokens tree forks marks fits s agree (λ t. low) in
+    subst (GrownAs tokens (grown_from tokens marks)) (sym r.same) (read_whole tokens marks true r.p r.low r.some r.after (told_read tokens marks r.p r.low r.after))
+
+-- and where it gives nodes these spell the tree, however deep that might be
+pub grown_sure : (tokens : List Token) (tree : Pieces) (forks : List Fork) (marks : List Bool) (nodes : List Node) → length tokens < 2 ^ 32 → Sure (part.Rule rule.Root ∷ []) [] (kinds_of tokens) [] [] tree forks → Agrees tokens marks forks → grown_from tokens marks ≡ Ok nodes
+    → GrownAs tokens (grown_from tokens marks) tree
+grown_sure tokens tree forks marks nodes fits s agree e =
+    let r = root_read false tokens tree forks marks fits s agree (λ t. absurd (cc)) in
+    subst (GrownAs tokens (grown_from tokens marks)) (sym r.same) (read_whole tokens marks false r.p r.low r.some r.after (loose_read tokens marks false r.p r.low nodes r.after e))
 
 -- so where the first pass names the choices, all is read as that tree
 pub sure_parsed : (tokens : List Token) (tree : Pieces) (forks : List Fork) (marks : List Bool) → length tokens < 2 ^ 32 → Sure (part.Rule rule.Root ∷ []) [] (kinds_of tokens) [] [] tree forks → Agrees tokens marks forks → height tree ≤ 200
