@@ -27,3 +27,9 @@ pub fn derived_is_sentence()
 pub fn moves_suffice()
     ensures { MovesSuffice }
 {}
+
+/// A tree that the tie-breaks choose is sure: at each choice where the second alternative is taken, the
+/// first leads nowhere.
+pub fn chosen_is_sure()
+    ensures { OneTree }
+{}
