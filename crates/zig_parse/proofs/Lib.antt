@@ -26,3 +26,5 @@ pub mod Costs
 pub mod LastToken
 pub mod Ways
 pub mod Reading
+pub mod Operands
+pub mod Bodies

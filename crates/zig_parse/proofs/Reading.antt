@@ -1,6 +1,6 @@
 -- How far parts in a row read, whatever the pieces: a rule or a group gives way to the parts of the
 -- alternative that is taken, and stands for them.
-use Rattle.std.proofs.Common.{◌≡◌, ◌≤◌, true, ◌⊎◌, inl, inr, List, [], ◌∷◌, ◌++◌, length, refl, sym, ap, subst}
+use Rattle.std.proofs.Common.{◌≡◌, ◌<◌, ◌≤◌, true, ◌⊎◌, inl, inr, List, [], ◌∷◌, ◌++◌, length, refl, sym, ap, subst}
 use Rattle.zig_tree.specs.declared.token.TokenKind.{TokenKind}
 use Rattle.zig_tree.specs.declared.grammar.Rule.{Rule}
 use Rattle.zig_tree.specs.declared.grammar.Group.{Group}
@@ -11,7 +11,8 @@ use Rattle.zig_tree.specs.Kinds.{has_kind}
 use Rattle.zig_tree.specs.Grammar.{Alternative, group_rows, rule_rows}
 use Rattle.zig_tree.specs.GrammarSentences.{Pieces, nothing, followed, made, open_at, Among, Derives, derives_none, derives_group, derives_rule}
 use Rattle.zig_parse.proofs.Derived.{none_derived, token_derived, class_derived, group_derived, rule_derived, split_derived, joined_derived, no_longer}
-use Rattle.zig_parse.proofs.Shapes.{is_closed}
+use Rattle.zig_parse.proofs.Shapes.{fills, is_closed}
+use Rattle.zig_parse.proofs.Balance.{reads_some}
 use Rattle.zig_parse.proofs.Ends.{ends_same}
 
 -- parts derive tokens up to some others
@@ -53,6 +54,12 @@ group_read g ps tokens rest d =
     let t = (group_derived g ps tokens rest d.0 d.1).0 in
     record { a = t.a; next = t.next; among = t.among; first = (t.inside, t.first); others = (t.later, t.others) }
 
+pub rule_alone : (r : Rule) (tokens rest : List TokenKind) → Reads (part.Rule r ∷ []) tokens rest → (a : Alternative) × (among : Among a (open_at tokens (rule_rows r))) × Reads a.parts tokens rest
+rule_alone r tokens rest d = let o = rule_read r [] tokens rest d in (o.a, o.among, subst (Reads o.a.parts tokens) (none_read o.next rest o.others) o.first)
+
+pub group_alone : (g : Group) (tokens rest : List TokenKind) → Reads (part.Group g ∷ []) tokens rest → (a : Alternative) × (among : Among a (open_at tokens (group_rows g))) × Reads a.parts tokens rest
+group_alone g tokens rest d = let o = group_read g [] tokens rest d in (o.a, o.among, subst (Reads o.a.parts tokens) (none_read o.next rest o.others) o.first)
+
 -- ---- the parts of an alternative in the place of a rule or a group
 
 among_one : (a b : Alternative) → Among a (b ∷ []) → a ≡ b
@@ -78,6 +85,9 @@ rule_made r a tokens rest m d = (followed (made r d.0) nothing, derives_rule r a
 pub group_made : (g : Group) (a : Alternative) (tokens rest : List TokenKind) → Among a (open_at tokens (group_rows g)) → Reads a.parts tokens rest → Reads (part.Group g ∷ []) tokens rest
 group_made g a tokens rest m d = (followed d.0 nothing, derives_group g a [] tokens rest rest d.0 nothing m d.1 (derives_none rest))
 
+pub among_sole : (a : Alternative) (rows : List Alternative) → rows ≡ a ∷ [] → Among a rows
+among_sole a rows e = subst (Among a) (sym e) (inl refl)
+
 -- ---- where they end
 
 pub closed_read : (ps : List Part) (tokens n m : List TokenKind) → is_closed ps ≡ true → Reads ps tokens n → Reads ps tokens m → n ≡ m
@@ -92,3 +102,6 @@ split_both front ps qs tokens n m h d e =
     let s = split_read front ps tokens n d in
     let t = split_read front qs tokens m e in
     (s.0, s.1, s.2, subst (λ (l : List TokenKind). Reads qs l m) (closed_read front tokens t.0 s.0 h t.1 s.1) t.2)
+
+pub less_read : (ps : List Part) (tokens rest : List TokenKind) → fills ps ≡ true → Reads ps tokens rest → length rest < length tokens
+less_read ps tokens rest h d = reads_some ps tokens rest d.0 d.1 h
