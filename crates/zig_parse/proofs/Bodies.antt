@@ -307,3 +307,215 @@ front_reaches bound front k tokens n far closed some bodies t l d e =
     let s = split_both front (part.Rule rule.Rest ∷ []) (part.Rule rule.RestExpression ∷ k) tokens n far closed d e in
     let less = less_read front tokens s.0 some s.1 in
     reaches_after front (part.Rule rule.Rest ∷ []) tokens s.0 n far s.1 (rest_reaches bound k s.0 n far bodies t (omega arith) s.2 s.3)
+
+abbrev if_front : List Part
+if_front = part.Token kind.KeywordIf ∷ part.Token kind.LeftParen ∷ part.Rule rule.Or ∷ part.Token kind.RightParen ∷ part.Group group.CaptureOption ∷ []
+
+abbrev while_front : List Part
+while_front = part.Token kind.KeywordWhile ∷ part.Token kind.LeftParen ∷ part.Rule rule.Or ∷ part.Token kind.RightParen ∷ part.Group group.CaptureOption ∷ part.Group group.ContinueOption ∷ []
+
+abbrev for_front : List Part
+for_front =
+    part.Token kind.KeywordFor ∷ part.Token kind.LeftParen ∷ part.Rule rule.ForArgument ∷ part.Group group.MoreForArguments ∷ part.Token kind.RightParen ∷ part.Token kind.Pipe ∷ part.Rule rule.Captures ∷ part.Token kind.Pipe ∷ []
+
+if_reaches : (bound : ℕ) (k : List Part) (tokens n far : List TokenKind) → Bodies bound → Trail statement_end k → length tokens ≤ bound
+    → Reads (part.Rule rule.IfStatement ∷ []) tokens n → Reads (part.Rule rule.IfExpression ∷ k) tokens far → Reaches (part.Rule rule.IfStatement ∷ []) tokens n far
+unfolding rule_rows
+if_reaches bound k tokens n far bodies t l d e =
+    let a = rule_opened rule.IfStatement (row when.Always (if_front ++ part.Rule rule.Rest ∷ [])) [] tokens n refl d in
+    let o = rule_opened rule.IfExpression (row when.Always (if_front ++ part.Rule rule.RestExpression ∷ [])) k tokens far refl e in
+    reaches_as (if_front ++ part.Rule rule.Rest ∷ []) (part.Rule rule.IfStatement ∷ []) tokens n far (front_reaches bound if_front k tokens n far refl refl bodies t l a o)
+    (λ i. rule_made rule.IfStatement (row when.Always (if_front ++ part.Rule rule.Rest ∷ [])) tokens far (inl refl) i)
+
+while_reaches : (bound : ℕ) (k : List Part) (tokens n far : List TokenKind) → Bodies bound → Trail statement_end k → length tokens ≤ bound
+    → Reads (part.Rule rule.WhileStatement ∷ []) tokens n → Reads (part.Rule rule.WhileExpression ∷ k) tokens far → Reaches (part.Rule rule.WhileStatement ∷ []) tokens n far
+unfolding rule_rows
+while_reaches bound k tokens n far bodies t l d e =
+    let a = rule_opened rule.WhileStatement (row when.Always (while_front ++ part.Rule rule.Rest ∷ [])) [] tokens n refl d in
+    let o = rule_opened rule.WhileExpression (row when.Always (while_front ++ part.Rule rule.RestExpression ∷ [])) k tokens far refl e in
+    reaches_as (while_front ++ part.Rule rule.Rest ∷ []) (part.Rule rule.WhileStatement ∷ []) tokens n far (front_reaches bound while_front k tokens n far refl refl bodies t l a o)
+    (λ i. rule_made rule.WhileStatement (row when.Always (while_front ++ part.Rule rule.Rest ∷ [])) tokens far (inl refl) i)
+
+for_reaches : (bound : ℕ) (k : List Part) (tokens n far : List TokenKind) → Bodies bound → Trail statement_end k → length tokens ≤ bound
+    → Reads (part.Rule rule.ForStatement ∷ []) tokens n → Reads (part.Rule rule.ForExpression ∷ k) tokens far → Reaches (part.Rule rule.ForStatement ∷ []) tokens n far
+unfolding rule_rows
+for_reaches bound k tokens n far bodies t l d e =
+    let a = rule_opened rule.ForStatement (row when.Always (for_front ++ part.Rule rule.Rest ∷ [])) [] tokens n refl d in
+    let o = rule_opened rule.ForExpression (row when.Always (for_front ++ part.Rule rule.RestExpression ∷ [])) k tokens far refl e in
+    reaches_as (for_front ++ part.Rule rule.Rest ∷ []) (part.Rule rule.ForStatement ∷ []) tokens n far (front_reaches bound for_front k tokens n far refl refl bodies t l a o)
+    (λ i. rule_made rule.ForStatement (row when.Always (for_front ++ part.Rule rule.Rest ∷ [])) tokens far (inl refl) i)
+
+-- the first token of each
+if_begins : (tokens n : List TokenKind) → Reads (part.Rule rule.IfStatement ∷ []) tokens n → (more : List TokenKind) × (tokens ≡ kind.KeywordIf ∷ more)
+unfolding rule_rows
+if_begins tokens n d =
+    let a = rule_opened rule.IfStatement (row when.Always (if_front ++ part.Rule rule.Rest ∷ [])) [] tokens n refl d in
+    let t = token_read kind.KeywordIf (part.Token kind.LeftParen ∷ part.Rule rule.Or ∷ part.Token kind.RightParen ∷ part.Group group.CaptureOption ∷ part.Rule rule.Rest ∷ []) tokens n a in
+    (t.0, t.1)
+
+while_begins : (tokens n : List TokenKind) → Reads (part.Rule rule.WhileStatement ∷ []) tokens n → (more : List TokenKind) × (tokens ≡ kind.KeywordWhile ∷ more)
+unfolding rule_rows
+while_begins tokens n d =
+    let a = rule_opened rule.WhileStatement (row when.Always (while_front ++ part.Rule rule.Rest ∷ [])) [] tokens n refl d in
+    let t = token_read kind.KeywordWhile (part.Token kind.LeftParen ∷ part.Rule rule.Or ∷ part.Token kind.RightParen ∷ part.Group group.CaptureOption ∷ part.Group group.ContinueOption ∷ part.Rule rule.Rest ∷ []) tokens n a in
+    (t.0, t.1)
+
+for_begins : (tokens n : List TokenKind) → Reads (part.Rule rule.ForStatement ∷ []) tokens n → (more : List TokenKind) × (tokens ≡ kind.KeywordFor ∷ more)
+unfolding rule_rows
+for_begins tokens n d =
+    let a = rule_opened rule.ForStatement (row when.Always (for_front ++ part.Rule rule.Rest ∷ [])) [] tokens n refl d in
+    let t = token_read kind.KeywordFor (part.Token kind.LeftParen ∷ part.Rule rule.ForArgument ∷ part.Group group.MoreForArguments ∷ part.Token kind.RightParen ∷ part.Token kind.Pipe ∷ part.Rule rule.Captures ∷ part.Token kind.Pipe ∷ part.Rule rule.Rest ∷ []) tokens n a in
+    (t.0, t.1)
+
+switch_begins : (tokens n : List TokenKind) → Reads (part.Rule rule.Switch ∷ []) tokens n → (more : List TokenKind) × (tokens ≡ kind.KeywordSwitch ∷ more)
+unfolding rule_rows
+switch_begins tokens n d =
+    let a = rule_opened rule.Switch (row when.Always (part.Token kind.KeywordSwitch ∷ part.Token kind.LeftParen ∷ part.Rule rule.Or ∷ part.Token kind.RightParen ∷ part.Group group.SwitchBraces ∷ [])) [] tokens n refl d in
+    let t = token_read kind.KeywordSwitch (part.Token kind.LeftParen ∷ part.Rule rule.Or ∷ part.Token kind.RightParen ∷ part.Group group.SwitchBraces ∷ []) tokens n a in
+    (t.0, t.1)
+
+-- ---- each form of a statement, beside an expression
+
+-- the same parts of the expression lead
+led_reaches : (front k : List Part) (tokens n far : List TokenKind) → is_closed front ≡ true → Reads front tokens n → Reads (front ++ k) tokens far → Reaches front tokens n far
+led_reaches front k tokens n far closed d e =
+    let s = split_read front k tokens far e in
+    inl (let l = shorter_read k s.0 far s.2 in omega (arith, ap length (closed_read front tokens n s.0 closed d s.1)))
+
+if_form : (bound : ℕ) (k : List Part) (tokens n far : List TokenKind) → Bodies bound → Trail statement_end k → length tokens ≤ bound
+    → Reads (part.Rule rule.IfStatement ∷ []) tokens n → Reads (part.Rule rule.Or ∷ k) tokens far → Reaches (part.Rule rule.IfStatement ∷ []) tokens n far
+if_form bound k tokens n far bodies t l d e =
+    let b = if_begins tokens n d in
+    let o = if_operand k b.0 far (subst (λ (x : List TokenKind). Reads (part.Rule rule.Or ∷ k) x far) b.1 e) in
+    if_reaches bound (tails k) tokens n far bodies (tails_trail statement_end k t) l d (subst (λ (x : List TokenKind). Reads (part.Rule rule.IfExpression ∷ tails k) x far) (sym b.1) o)
+
+while_form : (bound : ℕ) (k : List Part) (tokens n far : List TokenKind) → Bodies bound → Trail statement_end k → length tokens ≤ bound
+    → Reads (part.Rule rule.WhileStatement ∷ []) tokens n → Reads (part.Rule rule.Or ∷ k) tokens far → Reaches (part.Rule rule.WhileStatement ∷ []) tokens n far
+while_form bound k tokens n far bodies t l d e =
+    let b = while_begins tokens n d in
+    let o = while_operand k b.0 far (subst (λ (x : List TokenKind). Reads (part.Rule rule.Or ∷ k) x far) b.1 e) in
+    while_reaches bound (tails k) tokens n far bodies (tails_trail statement_end k t) l d (subst (λ (x : List TokenKind). Reads (part.Rule rule.WhileExpression ∷ tails k) x far) (sym b.1) o)
+
+for_form : (bound : ℕ) (k : List Part) (tokens n far : List TokenKind) → Bodies bound → Trail statement_end k → length tokens ≤ bound
+    → Reads (part.Rule rule.ForStatement ∷ []) tokens n → Reads (part.Rule rule.Or ∷ k) tokens far → Reaches (part.Rule rule.ForStatement ∷ []) tokens n far
+for_form bound k tokens n far bodies t l d e =
+    let b = for_begins tokens n d in
+    let o = for_operand k b.0 far (subst (λ (x : List TokenKind). Reads (part.Rule rule.Or ∷ k) x far) b.1 e) in
+    for_reaches bound (tails k) tokens n far bodies (tails_trail statement_end k t) l d (subst (λ (x : List TokenKind). Reads (part.Rule rule.ForExpression ∷ tails k) x far) (sym b.1) o)
+
+block_form : (k : List Part) (tokens n far : List TokenKind) → Reads (part.Rule rule.Block ∷ []) tokens n → Reads (part.Rule rule.Or ∷ k) tokens far → Reaches (part.Rule rule.Block ∷ []) tokens n far
+block_form k tokens n far d e = led_reaches (part.Rule rule.Block ∷ []) (tails k) tokens n far refl d (block_operand_of k [] tokens n far d e)
+
+switch_form : (k : List Part) (tokens n far : List TokenKind) → Reads (part.Rule rule.Switch ∷ []) tokens n → Reads (part.Rule rule.Or ∷ k) tokens far → Reaches (part.Rule rule.Switch ∷ []) tokens n far
+switch_form k tokens n far d e =
+    let b = switch_begins tokens n d in
+    let o = switch_operand k b.0 far (subst (λ (x : List TokenKind). Reads (part.Rule rule.Or ∷ k) x far) b.1 e) in
+    led_reaches (part.Rule rule.Switch ∷ []) (switch_tails (tails k)) tokens n far refl d (subst (λ (x : List TokenKind). Reads (part.Rule rule.Switch ∷ switch_tails (tails k)) x far) (sym b.1) o)
+
+-- after a label
+while_labelled : (k : List Part) (more far : List TokenKind) → Reads (part.Group group.LabelledExpression ∷ k) (kind.KeywordWhile ∷ more) far → Reads (part.Rule rule.WhileExpression ∷ k) (kind.KeywordWhile ∷ more) far
+unfolding group_rows number_of
+while_labelled k more far d = group_opened group.LabelledExpression (row (when.Is kind.KeywordWhile) (part.Rule rule.WhileExpression ∷ [])) k (kind.KeywordWhile ∷ more) far refl d
+
+for_labelled : (k : List Part) (more far : List TokenKind) → Reads (part.Group group.LabelledExpression ∷ k) (kind.KeywordFor ∷ more) far → Reads (part.Rule rule.ForExpression ∷ k) (kind.KeywordFor ∷ more) far
+unfolding group_rows number_of
+for_labelled k more far d = group_opened group.LabelledExpression (row (when.Is kind.KeywordFor) (part.Rule rule.ForExpression ∷ [])) k (kind.KeywordFor ∷ more) far refl d
+
+block_labelled : (k : List Part) (more far : List TokenKind) → Reads (part.Group group.LabelledExpression ∷ k) (kind.LeftBrace ∷ more) far → Reads (part.Rule rule.Block ∷ k) (kind.LeftBrace ∷ more) far
+unfolding group_rows number_of
+block_labelled k more far d = group_opened group.LabelledExpression (row (when.Is kind.LeftBrace) (part.Rule rule.Block ∷ [])) k (kind.LeftBrace ∷ more) far refl d
+
+labelled_row : (bound : ℕ) (k : List Part) (a : Alternative) (tokens n far : List TokenKind) → Bodies bound → Trail statement_end k → length tokens ≤ bound → Among a (group_rows group.LabelledStatement)
+    → Reads a.parts tokens n → Reads (part.Group group.LabelledExpression ∷ k) tokens far → Reaches a.parts tokens n far
+unfolding group_rows
+labelled_row bound k a tokens n far bodies t l (inl e) d i =
+    let f = subst (λ (x : Alternative). Reads x.parts tokens n) e d in
+    let b = while_begins tokens n f in
+    let o = while_labelled k b.0 far (subst (λ (x : List TokenKind). Reads (part.Group group.LabelledExpression ∷ k) x far) b.1 i) in
+    subst (λ (x : Alternative). Reaches x.parts tokens n far) (sym e) (while_reaches bound k tokens n far bodies t l f (subst (λ (x : List TokenKind). Reads (part.Rule rule.WhileExpression ∷ k) x far) (sym b.1) o))
+labelled_row bound k a tokens n far bodies t l (inr (inl e)) d i =
+    let f = subst (λ (x : Alternative). Reads x.parts tokens n) e d in
+    let b = for_begins tokens n f in
+    let o = for_labelled k b.0 far (subst (λ (x : List TokenKind). Reads (part.Group group.LabelledExpression ∷ k) x far) b.1 i) in
+    subst (λ (x : Alternative). Reaches x.parts tokens n far) (sym e) (for_reaches bound k tokens n far bodies t l f (subst (λ (x : List TokenKind). Reads (part.Rule rule.ForExpression ∷ k) x far) (sym b.1) o))
+labelled_row bound k a tokens n far bodies t l (inr (inr (inl e))) d i =
+    let f = subst (λ (x : Alternative). Reads x.parts tokens n) e d in
+    let b = block_begins [] tokens n f in
+    let o = block_labelled k b.0 far (subst (λ (x : List TokenKind). Reads (part.Group group.LabelledExpression ∷ k) x far) b.1 i) in
+    subst (λ (x : Alternative). Reaches x.parts tokens n far) (sym e) (led_reaches (part.Rule rule.Block ∷ []) k tokens n far refl f (subst (λ (x : List TokenKind). Reads (part.Rule rule.Block ∷ k) x far) (sym b.1) o))
+labelled_row bound k a tokens n far bodies t l (inr (inr (inr m))) d i = elim m [ ]
+
+labelled_reaches : (bound : ℕ) (k : List Part) (tokens n far : List TokenKind) → Bodies bound → Trail statement_end k → length tokens ≤ bound
+    → Reads (part.Group group.LabelledStatement ∷ []) tokens n → Reads (part.Group group.LabelledExpression ∷ k) tokens far → Reaches (part.Group group.LabelledStatement ∷ []) tokens n far
+labelled_reaches bound k tokens n far bodies t l d e =
+    let a = group_alone group.LabelledStatement tokens n d in
+    reaches_as a.0.parts (part.Group group.LabelledStatement ∷ []) tokens n far (labelled_row bound k a.0 tokens n far bodies t l (open_is_row tokens a.0 (group_rows group.LabelledStatement) a.1) a.2 e)
+    (λ i. group_made group.LabelledStatement a.0 tokens far a.1 i)
+
+label_form : (bound : ℕ) (k : List Part) (tokens n far : List TokenKind) → Bodies bound → Trail statement_end k → length tokens ≤ bound
+    → Reads (part.Token kind.Identifier ∷ part.Token kind.Colon ∷ part.Group group.LabelledStatement ∷ []) tokens n → Reads (part.Rule rule.Or ∷ k) tokens far
+    → Reaches (part.Token kind.Identifier ∷ part.Token kind.Colon ∷ part.Group group.LabelledStatement ∷ []) tokens n far
+label_form bound k tokens n far bodies t l d e =
+    let front = part.Token kind.Identifier ∷ part.Token kind.Colon ∷ [] in
+    let s = split_read front (part.Group group.LabelledStatement ∷ []) tokens n d in
+    let x = token_read kind.Identifier (part.Token kind.Colon ∷ []) tokens s.0 s.1 in
+    let y = token_read kind.Colon [] x.0 s.0 x.2 in
+    let whole : tokens ≡ kind.Identifier ∷ kind.Colon ∷ s.0 = x.1 ∙ ap (λ (i : List TokenKind). kind.Identifier ∷ i) (y.1 ∙ ap (λ (i : List TokenKind). kind.Colon ∷ i) (none_read y.0 s.0 y.2)) in
+    let o = label_operand k s.0 far (subst (λ (i : List TokenKind). Reads (part.Rule rule.Or ∷ k) i far) whole e) in
+    let less = shorter_read front tokens s.0 s.1 in
+    reaches_after front (part.Group group.LabelledStatement ∷ []) tokens s.0 n far s.1 (labelled_reaches bound (tails k) s.0 n far bodies (tails_trail statement_end k t) (omega arith) s.2 o)
+
+expression_form : (k : List Part) (tokens n far : List TokenKind) → Trail statement_end k → Reads (part.Rule rule.Assignment ∷ part.Token kind.Semicolon ∷ []) tokens n → Reads (part.Rule rule.Or ∷ k) tokens far
+    → Reaches (part.Rule rule.Assignment ∷ part.Token kind.Semicolon ∷ []) tokens n far
+expression_form k tokens n far t d e =
+    let a = assignment_opened (part.Token kind.Semicolon ∷ []) tokens n (expression_no_underscore k tokens far e) d in
+    let s = split_both (part.Rule rule.Or ∷ []) statement_end k tokens n far refl a e in
+    let ends = tail_next (part.Token kind.Semicolon ∷ []) s.0 n (λ next i. (let u = token_read kind.Semicolon [] next n i in ap (λ (l : List TokenKind). ends_operand (next_kind l)) u.1)) s.2 in
+    inl (same_length far n (closed_read statement_end s.0 n far refl s.2 (trail_read statement_end k s.0 far t ends s.3)))
+
+pub body_row : (bound : ℕ) (k : List Part) (a : Alternative) (tokens n far : List TokenKind) → Bodies bound → Trail statement_end k → length tokens ≤ bound → Among a (rule_rows rule.Body)
+    → Reads a.parts tokens n → Reads (part.Rule rule.Or ∷ k) tokens far → Reaches a.parts tokens n far
+unfolding rule_rows
+body_row bound k a tokens n far bodies t l (inl e) d i =
+    subst (λ (x : Alternative). Reaches x.parts tokens n far) (sym e) (if_form bound k tokens n far bodies t l (subst (λ (x : Alternative). Reads x.parts tokens n) e d) i)
+body_row bound k a tokens n far bodies t l (inr (inl e)) d i =
+    subst (λ (x : Alternative). Reaches x.parts tokens n far) (sym e) (while_form bound k tokens n far bodies t l (subst (λ (x : Alternative). Reads x.parts tokens n) e d) i)
+body_row bound k a tokens n far bodies t l (inr (inr (inl e))) d i =
+    subst (λ (x : Alternative). Reaches x.parts tokens n far) (sym e) (for_form bound k tokens n far bodies t l (subst (λ (x : Alternative). Reads x.parts tokens n) e d) i)
+body_row bound k a tokens n far bodies t l (inr (inr (inr (inl e)))) d i =
+    subst (λ (x : Alternative). Reaches x.parts tokens n far) (sym e) (label_form bound k tokens n far bodies t l (subst (λ (x : Alternative). Reads x.parts tokens n) e d) i)
+body_row bound k a tokens n far bodies t l (inr (inr (inr (inr (inl e))))) d i =
+    subst (λ (x : Alternative). Reaches x.parts tokens n far) (sym e) (block_form k tokens n far (subst (λ (x : Alternative). Reads x.parts tokens n) e d) i)
+body_row bound k a tokens n far bodies t l (inr (inr (inr (inr (inr (inl e)))))) d i =
+    subst (λ (x : Alternative). Reaches x.parts tokens n far) (sym e) (switch_form k tokens n far (subst (λ (x : Alternative). Reads x.parts tokens n) e d) i)
+body_row bound k a tokens n far bodies t l (inr (inr (inr (inr (inr (inr (inl e))))))) d i =
+    subst (λ (x : Alternative). Reaches x.parts tokens n far) (sym e) (expression_form k tokens n far t (subst (λ (x : Alternative). Reads x.parts tokens n) e d) i)
+body_row bound k a tokens n far bodies t l (inr (inr (inr (inr (inr (inr (inr m))))))) d i = elim m [ ]
+
+pub all_bodies : (bound : ℕ) → Bodies bound
+all_bodies zero k tokens n far t l d e = absurd (omega arith)
+all_bodies (suc bound) k tokens n far t l d e =
+    let a = rule_alone rule.Body tokens n d in
+    reaches_as a.0.parts (part.Rule rule.Body ∷ []) tokens n far
+    (body_row bound k a.0 tokens n far (λ i x y z u v w s. all_bodies bound i x y z u v w s) t (omega arith) (open_is_row tokens a.0 (rule_rows rule.Body) a.1) a.2 e) (λ i. rule_made rule.Body a.0 tokens far a.1 i)
+
+-- ---- the choices
+
+-- another form of a statement beside an assignment and its semicolon
+pub body_reaches : (a : Alternative) (tokens n far : List TokenKind) → Among a (rule_rows rule.Body) → is_kind kind.Underscore (next_kind tokens) ≡ false → Reads a.parts tokens n → Reads (part.Rule rule.Assignment ∷ part.Token kind.Semicolon ∷ []) tokens far
+    → Reaches a.parts tokens n far
+body_reaches a tokens n far m h d e =
+    body_row (length tokens) statement_end a tokens n far (λ i x y z u v w s. all_bodies (length tokens) i x y z u v w s) trail_ends (omega arith) m d (assignment_opened (part.Token kind.Semicolon ∷ []) tokens far h e)
+
+-- a block with what follows it beside an assignment and what does
+pub rest_choice : (tokens n far : List TokenKind) → Reads (part.Rule rule.Block ∷ part.Group group.ElseOption ∷ []) tokens n → Reads (part.Rule rule.Assignment ∷ part.Group group.RestEnd ∷ []) tokens far
+    → Reaches (part.Rule rule.Block ∷ part.Group group.ElseOption ∷ []) tokens n far
+unfolding number_of
+rest_choice tokens n far d e =
+    let b = block_begins (part.Group group.ElseOption ∷ []) tokens n d in
+    let o = assignment_opened (part.Group group.RestEnd ∷ []) tokens far (ap (λ (l : List TokenKind). is_kind kind.Underscore (next_kind l)) b.1) e in
+    elim (block_led (part.Group group.AssignTail ∷ part.Group group.RestEnd ∷ []) tokens n far d o) [
+      | inl l ↦ inl l
+      | inr r ↦ inr (joined_read (part.Rule rule.Block ∷ []) (part.Group group.ElseOption ∷ []) tokens (kind.KeywordElse ∷ r.more) far r.block
+      (else_body_made r.more far (rest_end_read r.more far (no_assign_tail (part.Group group.RestEnd ∷ []) r.more far r.others))))
+    ]
