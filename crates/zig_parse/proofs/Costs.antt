@@ -23,7 +23,7 @@ use Rattle.zig_parse.specs.declared.thread.Move.{Move}
 use Rattle.zig_parse.specs.declared.thread.Move.TheVariants as move
 use Rattle.zig_parse.specs.Choices.{choices}
 use Rattle.zig_parse.specs.Stack.{rest, with_first}
-use Rattle.zig_parse.specs.Threads.{closed, closed_from, gained, hardened, is_braced, is_never_alone, item, met, met_from, opened, part_height, passed, put, replaced}
+use Rattle.zig_parse.specs.Threads.{closed, closed_from, gained, hardened, has_braces, is_braced, is_never_alone, item, met, met_from, opened, part_height, passed, put, replaced}
 use Rattle.zig_parse.specs.Moves.{at_choice, move_at, move_from, moving, moving_by, moves_for, moves_for_all, next_move, readers, reading, settled, settled_all, spread}
 use Rattle.zig_parse.specs.Growth.{Grown, Ready, known, known_by, moved, moved_by, picked, ready, ready_by, shut, shut_from, stuck_at, swapped}
 use Rattle.zig_parse.proofs.Derived.{each_row, open_is_row}
@@ -127,7 +127,11 @@ part_not_close look apart (part.Rule r) h = by (apart && is_braced r) h
     by : (b : Bool) → (if b then reading (is_kind look.kind LeftBrace) else move.Rule r) ≡ move.Close → ⊥
     by true e = not_close _ (reading_never (is_kind look.kind LeftBrace) _ refl) e
     by false e = cc
-part_not_close look apart (part.Group g) h = cc
+part_not_close look apart (part.Group g) h = by (apart && has_braces g) h
+  where
+    by : (b : Bool) → (if b then reading (is_kind look.kind LeftBrace) else move.Group g) ≡ move.Close → ⊥
+    by true e = not_close _ (reading_never (is_kind look.kind LeftBrace) _ refl) e
+    by false e = cc
 
 close_by : (look : Look) (apart : Bool) (n : ℕ) (i : Item) (is : List Item) (b : Bool) → nat_lt i.level n ≡ b → (if b then move.Close else move_at look apart i.part) ≡ move.Close → suc (work (n - 1) (i ∷ is)) ≤ work n (i ∷ is)
 close_by look apart n i is true e h =
@@ -188,7 +192,15 @@ rule_at look apart (part.Rule q) r h = by (apart && is_braced q) h
     by : (b : Bool) → (if b then reading (is_kind look.kind LeftBrace) else move.Rule q) ≡ move.Rule r → part.Rule q ≡ part.Rule r
     by true e = absurd (read (is_kind look.kind LeftBrace) e)
     by false e = (let same : q ≡ r = cc in ap part.Rule same)
-rule_at look apart (part.Group g) r h = absurd (cc)
+rule_at look apart (part.Group g) r h = absurd (by (apart && has_braces g) h)
+  where
+    read : (b : Bool) → reading b ≡ move.Rule r → ⊥
+    read true e = cc
+    read false e = cc
+
+    by : (b : Bool) → (if b then reading (is_kind look.kind LeftBrace) else move.Group g) ≡ move.Rule r → ⊥
+    by true e = read (is_kind look.kind LeftBrace) e
+    by false e = cc
 
 group_at : (look : Look) (apart : Bool) (p : Part) (g : Group) → move_at look apart p ≡ move.Group g → p ≡ part.Group g
 group_at look apart (part.Token k) g h = absurd (by (is_kind k look.kind) h)
@@ -210,7 +222,15 @@ group_at look apart (part.Rule q) g h = absurd (by (apart && is_braced q) h)
     by : (b : Bool) → (if b then reading (is_kind look.kind LeftBrace) else move.Rule q) ≡ move.Group g → ⊥
     by true e = read (is_kind look.kind LeftBrace) e
     by false e = cc
-group_at look apart (part.Group q) g h = let same : q ≡ g = cc in ap part.Group same
+group_at look apart (part.Group q) g h = by (apart && has_braces q) h
+  where
+    read : (b : Bool) → reading b ≡ move.Group g → ⊥
+    read true e = cc
+    read false e = cc
+
+    by : (b : Bool) → (if b then reading (is_kind look.kind LeftBrace) else move.Group q) ≡ move.Group g → part.Group q ≡ part.Group g
+    by true e = absurd (read (is_kind look.kind LeftBrace) e)
+    by false e = (let same : q ≡ g = cc in ap part.Group same)
 
 front_by : (look : Look) (apart : Bool) (n : ℕ) (i : Item) (is : List Item) (m : Move) (p : Part) (b : Bool) → nat_lt i.level n ≡ b → (if b then move.Close else move_at look apart i.part) ≡ m → (m ≡ move.Close → ⊥) → (move_at look apart i.part ≡ m → i.part ≡ p) → IsFront n (i ∷ is) p
 front_by look apart n i is m p true e h never f = absurd (never (sym h))

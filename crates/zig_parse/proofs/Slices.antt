@@ -1,8 +1,8 @@
 -- One step down a slice, for what the first pass asks of each thread.
 use Rattle.std.proofs.Common.{◌≡◌, ℕ, ◌+◌, ◌<◌, Bool, true, false, List, [], ◌∷◌, length, drop, get_or, refl, sym, ◌∙◌, ap, add-one, drop-cons, Option, Some, None}
 use Rattle.std.specs.Prelude.{is_some, if◌then◌else◌}
-use Rattle.zig_tree.specs.declared.grammar.Rule.{Rule}
-use Rattle.zig_tree.specs.Kinds.{is_rule}
+use Rattle.zig_tree.specs.declared.grammar.Part.{Part}
+use Rattle.zig_tree.specs.Kinds.{is_part}
 use Rattle.zig_parse.specs.declared.thread.Thread.{Thread}
 use Rattle.zig_parse.specs.declared.survey.Finished.{Finished}
 use Rattle.zig_parse.specs.Moves.{same_future, waits_for}
@@ -31,7 +31,7 @@ pub any_end : (ts : List Thread) (i : ℕ) → i ≡ length ts → any_waits (dr
 unfolding any_waits
 any_end ts i e = rw (e, drop_end ts) refl
 
-least_cons : (least : Option ℕ) (goal : Rule) (x : Thread) (ts : List Thread)
+least_cons : (least : Option ℕ) (goal : Part) (x : Thread) (ts : List Thread)
     → least_from least goal (x ∷ ts) ≡ least_from (if wants x goal then Some (least_with (depth_for x) least) else least) goal ts
 unfolding least_from
 least_cons least goal x ts = refl
@@ -42,21 +42,21 @@ chosen_if b x y e = rw e refl
 chosen_else : {T : Type 0} (b : Bool) (x y : T) → b ≡ false → (if b then x else y) ≡ y
 chosen_else b x y e = rw e refl
 
-pub least_more : (least now : Option ℕ) (goal : Rule) (ts : List Thread) (i : ℕ) (x : Thread) → i < length ts → x ≡ get_or ts i x → wants x goal ≡ true
+pub least_more : (least now : Option ℕ) (goal : Part) (ts : List Thread) (i : ℕ) (x : Thread) → i < length ts → x ≡ get_or ts i x → wants x goal ≡ true
     → now ≡ Some (least_with (depth_for x) least) → least_from least goal (drop i ts) ≡ least_from now goal (drop (i + 1) ts)
 least_more least now goal ts i x h e b s =
     ap (least_from least goal) (drop_item ts i x h e)
     ∙ least_cons least goal x (drop (i + 1) ts)
     ∙ ap (λ (o : Option ℕ). least_from o goal (drop (i + 1) ts)) (chosen_if (wants x goal) (Some (least_with (depth_for x) least)) least b ∙ sym s)
 
-pub least_next : (least now : Option ℕ) (goal : Rule) (ts : List Thread) (i : ℕ) (x : Thread) → i < length ts → x ≡ get_or ts i x → wants x goal ≡ false
+pub least_next : (least now : Option ℕ) (goal : Part) (ts : List Thread) (i : ℕ) (x : Thread) → i < length ts → x ≡ get_or ts i x → wants x goal ≡ false
     → now ≡ least → least_from least goal (drop i ts) ≡ least_from now goal (drop (i + 1) ts)
 least_next least now goal ts i x h e b s =
     ap (least_from least goal) (drop_item ts i x h e)
     ∙ least_cons least goal x (drop (i + 1) ts)
     ∙ ap (λ (o : Option ℕ). least_from o goal (drop (i + 1) ts)) (chosen_else (wants x goal) (Some (least_with (depth_for x) least)) least b ∙ sym s)
 
-pub least_end : (least : Option ℕ) (goal : Rule) (ts : List Thread) (i : ℕ) → i ≡ length ts → least_from least goal (drop i ts) ≡ least
+pub least_end : (least : Option ℕ) (goal : Part) (ts : List Thread) (i : ℕ) → i ≡ length ts → least_from least goal (drop i ts) ≡ least
 unfolding least_from
 least_end least goal ts i e = rw (e, drop_end ts) refl
 
@@ -73,17 +73,17 @@ pub among_end : (ts : List Thread) (t : Thread) (i : ℕ) → i ≡ length ts �
 unfolding is_among
 among_end ts t i e = rw (e, drop_end ts) refl
 
-pub result_here : (fs : List Finished) (goal : Rule) (i : ℕ) (d : Finished) → i < length fs → is_rule (get_or fs i d).goal goal ≡ true
-    → result_for (drop i fs) goal ≡ Some (get_or fs i d).height
+pub result_here : (fs : List Finished) (goal : Part) (i : ℕ) (x : Finished) → i < length fs → x ≡ get_or fs i x → is_part x.goal goal ≡ true
+    → result_for (drop i fs) goal ≡ Some x
 unfolding result_for
-result_here fs goal i d h b = rw (drop_step fs i d h, b) refl
+result_here fs goal i x h e b = rw (drop_item fs i x h e, b) refl
 
-pub result_next : (fs : List Finished) (goal : Rule) (i : ℕ) (d : Finished) → i < length fs → is_rule (get_or fs i d).goal goal ≡ false
+pub result_next : (fs : List Finished) (goal : Part) (i : ℕ) (x : Finished) → i < length fs → x ≡ get_or fs i x → is_part x.goal goal ≡ false
     → result_for (drop i fs) goal ≡ result_for (drop (i + 1) fs) goal
 unfolding result_for
-result_next fs goal i d h b = rw (drop_step fs i d h, b) refl
+result_next fs goal i x h e b = rw (drop_item fs i x h e, b) refl
 
-pub result_end : (fs : List Finished) (goal : Rule) (i : ℕ) → i ≡ length fs → result_for (drop i fs) goal ≡ None
+pub result_end : (fs : List Finished) (goal : Part) (i : ℕ) → i ≡ length fs → result_for (drop i fs) goal ≡ None
 unfolding result_for
 result_end fs goal i e = rw (e, drop_end fs) refl
 

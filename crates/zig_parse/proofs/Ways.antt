@@ -12,20 +12,7 @@ use Rattle.zig_tree.specs.declared.grammar.Part.TheVariants as part
 use Rattle.zig_tree.specs.Kinds.{has_kind}
 use Rattle.zig_tree.specs.Grammar.{Alternative, group_rows, rule_rows}
 use Rattle.zig_tree.specs.GrammarSentences.{Pieces, nothing, word, followed, made, open_at, Derives}
-use Rattle.zig_parse.specs.Threads.{is_braced}
-
--- whether a brace begins what a group derives
-abbrev pub has_braces : Group → Bool
-has_braces group.ErrorBraces = true
-has_braces group.SwitchBraces = true
-has_braces _ = false
-
--- whether a brace begins this part, and ends it: the first pass reads it by threads of its own
-abbrev pub is_apart : Part → Bool
-is_apart (part.Token _) = false
-is_apart (part.OneOf _) = false
-is_apart (part.Rule r) = is_braced r
-is_apart (part.Group g) = has_braces g
+pub use Rattle.zig_parse.specs.Threads.{has_braces, is_apart}
 
 -- a choice between two alternatives: how many tokens were left there, and whether the second was taken
 pub record Fork : Type 0 where

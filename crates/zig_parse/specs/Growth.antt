@@ -6,6 +6,7 @@ use Rattle.zig_tree.specs.declared.token.TokenKind.TheVariants.{End}
 use Rattle.zig_tree.specs.declared.grammar.Rule.{Rule}
 use Rattle.zig_tree.specs.declared.grammar.Rule.TheVariants.{Root}
 use Rattle.zig_tree.specs.declared.grammar.Part.{Part}
+use Rattle.zig_tree.specs.declared.grammar.Part.TheVariants as part
 use Rattle.zig_tree.specs.declared.tree.Node.{Node}
 use Rattle.zig_tree.specs.Grammar.{rule_rows, group_rows}
 use Rattle.zig_parse.specs.declared.choice.Look.{Look}
@@ -128,7 +129,7 @@ all_shut (suc n) tokens g = all_shut n tokens (shut tokens g)
 
 -- before the first token
 unfoldable pub sprout : Look → Grown
-sprout look = record { thread = begun look Root 0; parts = record { nodes = []; kids = [] } }
+sprout look = record { thread = begun look (part.Rule Root) 0; parts = record { nodes = []; kids = [] } }
 
 -- the nodes, where there are any
 abbrev pub nodes_or : ℕ → List Node → Result (List Node) SyntaxFault

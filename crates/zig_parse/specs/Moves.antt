@@ -4,7 +4,7 @@ use Rattle.zig_tree.specs.declared.token.TokenKind.TheVariants.{LeftBrace}
 use Rattle.zig_tree.specs.declared.grammar.Rule.{Rule}
 use Rattle.zig_tree.specs.declared.grammar.Part.{Part}
 use Rattle.zig_tree.specs.declared.grammar.Part.TheVariants as part
-use Rattle.zig_tree.specs.Kinds.{is_kind, is_rule, is_part, has_kind}
+use Rattle.zig_tree.specs.Kinds.{is_kind, is_part, has_kind}
 use Rattle.zig_tree.specs.Grammar.{rule_rows, group_rows}
 use Rattle.zig_parse.specs.declared.choice.Look.{Look}
 use Rattle.zig_parse.specs.declared.thread.Item.{Item}
@@ -12,19 +12,19 @@ use Rattle.zig_parse.specs.declared.thread.Thread.{Thread}
 use Rattle.zig_parse.specs.declared.thread.Move.{Move}
 use Rattle.zig_parse.specs.declared.thread.Move.TheVariants as move
 use Rattle.zig_parse.specs.Choices.{choices}
-use Rattle.zig_parse.specs.Threads.{is_braced, closed, replaced}
+use Rattle.zig_parse.specs.Threads.{has_braces, is_apart, is_braced, closed, replaced}
 
 -- the move at a token that fits or not
 abbrev pub reading : Bool → Move
 reading true = move.Read
 reading false = move.Stop
 
--- the move at a part, where braces that begin a rule are read by a thread of their own or not
+-- the move at a part, where what stands in braces is read by a thread of its own or not
 abbrev pub move_at : Look → Bool → Part → Move
 move_at look apart (part.Token k) = reading (is_kind k look.kind)
 move_at look apart (part.OneOf c) = reading (has_kind c look.kind)
 move_at look apart (part.Rule r) = if apart && is_braced r then reading (is_kind look.kind LeftBrace) else move.Rule r
-move_at look apart (part.Group g) = move.Group g
+move_at look apart (part.Group g) = if apart && has_braces g then reading (is_kind look.kind LeftBrace) else move.Group g
 
 -- the next move of a thread with these things to come, where so many nodes are open: a node is closed
 -- where it was opened after the first of them was put there
@@ -35,19 +35,13 @@ move_from look apart open_nodes (i ∷ is) = if nat_lt i.level open_nodes then m
 unfoldable pub next_move : Look → Bool → Thread → Move
 next_move look apart t = move_from look apart (length t.frames) t.items
 
--- the rule that is the first of what is to come
-abbrev pub rule_of : Part → Option Rule
-rule_of (part.Rule r) = Some r
-rule_of (part.Token _) = None
-rule_of (part.OneOf _) = None
-rule_of (part.Group _) = None
+-- the first of what is to come, where it stands in braces and a thread of its own reads it
+abbrev pub apart_from : List Item → Option Part
+apart_from [] = None
+apart_from (i ∷ is) = if is_apart i.part then Some i.part else None
 
-abbrev pub rule_from : List Item → Option Rule
-rule_from [] = None
-rule_from (i ∷ is) = rule_of i.part
-
-unfoldable pub waits_for : Thread → Option Rule
-waits_for t = rule_from t.items
+unfoldable pub waits_for : Thread → Option Part
+waits_for t = apart_from t.items
 
 -- a thread with the second alternative at a token
 abbrev pub at_choice : ℕ → Thread → Thread
@@ -108,4 +102,4 @@ same_parts (i ∷ is) [] = false
 
 -- whether two threads in one brace have the same to come
 unfoldable pub same_future : Thread → Thread → Bool
-same_future a b = is_rule a.goal b.goal && same_parts (reverse a.items) (reverse b.items)
+same_future a b = is_part a.goal b.goal && same_parts (reverse a.items) (reverse b.items)

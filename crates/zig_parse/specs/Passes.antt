@@ -1,41 +1,57 @@
 -- The first pass over tokens: every way to read them, until one way is left or none.
-use Rattle.std.specs.Prelude.{ℕ, Bool, true, false, ◌&&◌, ◌||◌, nat_eq, min, List, [], ◌∷◌, ◌++◌, length, slice_set, Option, Some, None, is_some, if◌then◌else◌}
+use Rattle.std.specs.Prelude.{ℕ, ◌-◌, Bool, true, false, ◌&&◌, ◌||◌, nat_eq, min, List, [], ◌∷◌, ◌++◌, length, slice_set, Option, Some, None, is_some, if◌then◌else◌}
+use Rattle.std.specs.Borrow.{Bor}
 use Rattle.zig_tree.specs.declared.token.TokenKind.TheVariants.{RightBrace}
-use Rattle.zig_tree.specs.declared.grammar.Rule.{Rule}
 use Rattle.zig_tree.specs.declared.grammar.Rule.TheVariants as rule
+use Rattle.zig_tree.specs.declared.grammar.Group.TheVariants as group
 use Rattle.zig_tree.specs.declared.grammar.Part.{Part}
-use Rattle.zig_tree.specs.Kinds.{is_kind, is_rule}
-use Rattle.zig_tree.specs.Grammar.{rule_rows}
+use Rattle.zig_tree.specs.declared.grammar.Part.TheVariants as part
+use Rattle.zig_tree.specs.Kinds.{is_kind, is_part}
+use Rattle.zig_tree.specs.Grammar.{group_rows, rule_rows}
 use Rattle.zig_parse.specs.declared.choice.Look.{Look}
 use Rattle.zig_parse.specs.declared.thread.Thread.{Thread}
 use Rattle.zig_parse.specs.declared.survey.Finished.{Finished}
 use Rattle.zig_parse.specs.declared.survey.Verdict.{Verdict}
 use Rattle.zig_parse.specs.declared.survey.Verdict.TheVariants as verdict
 use Rattle.zig_parse.specs.Choices.{choices}
-use Rattle.zig_parse.specs.Threads.{after_read, fresh, met, opened, put, received, risen}
+use Rattle.zig_parse.specs.Threads.{after_read, fresh, met_part, opened, put, received, risen, surround, with_choices}
 use Rattle.zig_parse.specs.Moves.{same_future, waits_for}
 
--- the thread that reads what a rule derives, from the parts of the one alternative that is taken
+-- the alternatives of a part that are taken
+abbrev pub part_choices : Look → Part → List (List Part)
+part_choices look (part.Rule r) = choices look (rule_rows r)
+part_choices look (part.Group g) = choices look (group_rows g)
+part_choices look (part.Token _) = []
+part_choices look (part.OneOf _) = []
+
+-- the innermost node while a part is read: one of its own for a rule, the one around for a group
+abbrev pub enclosed : Part → Thread → Thread
+enclosed (part.Rule r) t = opened r t
+enclosed (part.Group _) t = record t { frames = surround ∷ t.frames }
+enclosed (part.Token _) t = t
+enclosed (part.OneOf _) t = t
+
+-- the thread that reads what a part derives, from the parts of the one alternative that is taken
 abbrev pub begun_by : List (List Part) → Thread → Thread
 begun_by [] t = t
 begun_by (p ∷ []) t = put p t
 begun_by (p ∷ q ∷ _) t = t
 
-unfoldable pub begun : Look → Rule → ℕ → Thread
-begun look goal depth = begun_by (choices look (rule_rows goal)) (opened goal (fresh goal depth))
+unfoldable pub begun : Look → Part → ℕ → Thread
+begun look goal depth = begun_by (part_choices look goal) (enclosed goal (fresh goal depth))
 
--- whether a thread waits for a rule
-abbrev pub is_wanted : Option Rule → Rule → Bool
+-- whether a thread waits for a part
+abbrev pub is_wanted : Option Part → Part → Bool
 is_wanted None goal = false
-is_wanted (Some r) goal = is_rule r goal
+is_wanted (Some p) goal = is_part p goal
 
-unfoldable pub wants : Thread → Rule → Bool
+unfoldable pub wants : Thread → Part → Bool
 wants t goal = is_wanted (waits_for t) goal
 
 -- a thread that waits, with the node around the brace made one where a part came before
-abbrev pub waiting_by : Option Rule → Thread → List Thread
+abbrev pub waiting_by : Option Part → Thread → List Thread
 waiting_by None t = []
-waiting_by (Some r) t = met r t ∷ []
+waiting_by (Some p) t = met_part p t ∷ []
 
 -- the threads that wait
 unfoldable pub those_waiting : List Thread → List Thread
@@ -55,22 +71,24 @@ abbrev pub least_with : ℕ → Option ℕ → ℕ
 least_with d None = d
 least_with d (Some other) = min d other
 
--- the least of these depths and of those of the threads that wait for a rule
-unfoldable pub least_from : Option ℕ → Rule → List Thread → Option ℕ
+-- the least of these depths and of those of the threads that wait for a part
+unfoldable pub least_from : Option ℕ → Part → List Thread → Option ℕ
 least_from least goal [] = least
 least_from least goal (t ∷ ts) = least_from (if wants t goal then Some (least_with (depth_for t) least) else least) goal ts
 
--- the thread for a rule, where one waits for it
-abbrev pub begun_at : Look → Rule → Option ℕ → List Thread
+-- the thread for a part, where one waits for it
+abbrev pub begun_at : Look → Part → Option ℕ → List Thread
 begun_at look goal None = []
 begun_at look goal (Some depth) = begun look goal depth ∷ []
 
-abbrev pub begun_for : Look → List Thread → Rule → List Thread
+abbrev pub begun_for : Look → List Thread → Part → List Thread
 begun_for look waiting goal = begun_at look goal (least_from None goal waiting)
 
 -- the threads that read what begins with the brace
 unfoldable pub inside : Look → List Thread → List Thread
-inside look waiting = begun_for look waiting rule.Block ++ (begun_for look waiting rule.Initializer ++ begun_for look waiting rule.ContainerBody)
+inside look waiting =
+    begun_for look waiting (part.Rule rule.Block) ++ (begun_for look waiting (part.Rule rule.Initializer) ++ (begun_for look waiting (part.Rule rule.ContainerBody)
+    ++ (begun_for look waiting (part.Group group.ErrorBraces) ++ begun_for look waiting (part.Group group.SwitchBraces))))
 
 -- whether one of some threads goes on as this one does
 unfoldable pub is_among : List Thread → Thread → Bool
@@ -91,28 +109,35 @@ unfoldable pub marked : List ℕ → List Bool → List Bool
 marked [] marks = marks
 marked (at ∷ more) marks = marked more (slice_set marks at true)
 
--- and with one at each token at which one of these threads took the second alternative
-unfoldable pub all_marked : List Thread → List Bool → List Bool
-all_marked [] marks = marks
-all_marked (t ∷ ts) marks = all_marked ts (marked t.choices marks)
+-- how many nodes lie one in the other in a part, of so many with the innermost node while it is read
+abbrev pub own_height : Part → ℕ → ℕ
+own_height (part.Group _) height = height - 1
+own_height (part.Rule _) height = height
+own_height (part.Token _) height = height
+own_height (part.OneOf _) height = height
 
 -- what a thread read, once its brace is closed
 abbrev pub finished : Thread → Finished
-finished t = record { goal = t.goal; height = risen 0 t.frames }
+finished t = record { goal = t.goal; height = own_height t.goal (risen 0 t.frames); choices = t.choices }
 
--- how many nodes lie one in the other in what was read for a rule
-unfoldable pub result_for : List Finished → Rule → Option ℕ
+-- what was read for a part
+unfoldable pub result_for : List Finished → Part → Option Finished
 result_for [] goal = None
-result_for (f ∷ fs) goal = if is_rule f.goal goal then Some f.height else result_for fs goal
+result_for (f ∷ fs) goal = if is_part f.goal goal then Some f else result_for fs goal
 
 -- a thread that waited goes on, where what it waits for was read
-abbrev pub resumed_at : List Thread → Thread → Option ℕ → List Thread
+abbrev pub resumed_at : List Thread → Thread → Option Finished → List Thread
 resumed_at kept t None = kept
-resumed_at kept t (Some height) = kept_with kept (received height t)
+resumed_at kept t (Some f) = kept_with kept (with_choices f.choices (received f.height t))
 
-abbrev pub resumed_by : List Finished → List Thread → Thread → Option Rule → List Thread
+abbrev pub resumed_by : List Finished → List Thread → Thread → Option Part → List Thread
 resumed_by found kept t None = kept
-resumed_by found kept t (Some r) = resumed_at kept t (result_for found r)
+resumed_by found kept t (Some p) = resumed_at kept t (result_for found p)
+
+-- a value that the code's answer names
+abbrev pub lent_one : {T : Type 0} → Option (Bor T) → Option T
+lent_one None = None
+lent_one (Some x) = Some x.now
 
 unfoldable pub resumed : List Finished → List Thread → List Thread → List Thread
 resumed found kept [] = kept

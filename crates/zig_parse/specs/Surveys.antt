@@ -4,6 +4,7 @@ use Rattle.zig_tree.specs.declared.token.Token.{Token}
 use Rattle.zig_tree.specs.declared.token.TokenKind.{TokenKind}
 use Rattle.zig_tree.specs.declared.token.TokenKind.TheVariants.{End}
 use Rattle.zig_tree.specs.declared.grammar.Rule.TheVariants.{Root}
+use Rattle.zig_tree.specs.declared.grammar.Part.TheVariants as part
 use Rattle.zig_parse.specs.declared.choice.Look.{Look}
 use Rattle.zig_parse.specs.declared.thread.Thread.{Thread}
 use Rattle.zig_parse.specs.declared.fault.SyntaxFault.{SyntaxFault}
@@ -13,7 +14,7 @@ use Rattle.zig_parse.specs.declared.survey.Verdict.TheVariants as verdict
 use Rattle.zig_parse.specs.declared.state.State.{State}
 use Rattle.zig_parse.specs.Stack.{rest}
 use Rattle.zig_parse.specs.Moves.{settled_all}
-use Rattle.zig_parse.specs.Passes.{after_token, all_marked, alone, any_waits, begun, finished, inside, is_closed, marked_alone, resumed_top, those_waiting, verdict_of}
+use Rattle.zig_parse.specs.Passes.{after_token, alone, any_waits, begun, finished, inside, is_closed, marked_alone, resumed_top, those_waiting, verdict_of}
 
 -- the kind of a token, or that of the file's end
 abbrev pub kind_of : Option Token → TokenKind
@@ -24,22 +25,19 @@ kind_of (Some t) = t.kind
 abbrev pub look_at : List Token → ℕ → Look
 look_at tokens at = record { kind = kind_of (slice_get tokens at); next = kind_of (slice_get tokens (at + 1)) }
 
--- at a brace that begins a rule, the threads that read the rule, and those that wait for them
+-- at a brace that begins a part, the threads that read the part, and those that wait for them
 unfoldable pub entered : Look → List Thread → List Thread
 entered look ready = if any_waits ready then inside look (those_waiting ready) else ready
 
 unfoldable pub entered_waiting : List Thread → List (List Thread) → List (List Thread)
 entered_waiting ready waiting = if any_waits ready then those_waiting ready ∷ waiting else waiting
 
--- after a brace that ends a rule, the threads that waited for it, those that still wait, and the marks
+-- after a brace that ends a part, the threads that waited for it, and those that still wait
 unfoldable pub left : Look → List Thread → List (List Thread) → List Thread
 left look live waiting = if is_closed look live then resumed_top (map finished live) waiting else live
 
 unfoldable pub left_waiting : Look → List Thread → List (List Thread) → List (List Thread)
 left_waiting look live waiting = if is_closed look live then rest waiting else waiting
-
-unfoldable pub left_marks : Look → List Thread → List Bool → List Bool
-left_marks look live marks = if is_closed look live then all_marked live marks else marks
 
 -- the threads after a token, before a brace is left, and those that wait
 unfoldable pub read_live : Look → ℕ → State → List Thread
@@ -59,11 +57,11 @@ unfoldable pub next_verdict : Look → ℕ → State → Verdict
 next_verdict look at s = verdict_of (next_live look at s)
 
 unfoldable pub next_marks : Look → ℕ → State → List Bool → List Bool
-next_marks look at s marks = marked_alone (next_live look at s) (left_marks look (read_live look at s) marks)
+next_marks look at s marks = marked_alone (next_live look at s) marks
 
 -- before the first token
 unfoldable pub first_state : Look → State
-first_state look = record { waiting = []; live = begun look Root 0 ∷ [] }
+first_state look = record { waiting = []; live = begun look (part.Rule Root) 0 ∷ [] }
 
 -- so many tokens from this number on: the marks, or the refused token
 abbrev pub judged : Verdict → Result (List Bool) SyntaxFault → TokenKind → ℕ → Result (List Bool) SyntaxFault

@@ -2,7 +2,10 @@
 use Rattle.std.specs.Prelude.{ℕ, ◌+◌, ◌-◌, ◌^◌, Bool, true, false, not, ◌&&◌, ◌||◌, nat_lt, min, max, List, [], ◌∷◌, ◌++◌, map, length, Option, Some, None, if◌then◌else◌}
 use Rattle.zig_tree.specs.declared.grammar.Rule.{Rule}
 use Rattle.zig_tree.specs.declared.grammar.Rule.TheVariants as rule
+use Rattle.zig_tree.specs.declared.grammar.Group.{Group}
+use Rattle.zig_tree.specs.declared.grammar.Group.TheVariants as group
 use Rattle.zig_tree.specs.declared.grammar.Part.{Part}
+use Rattle.zig_tree.specs.declared.grammar.Part.TheVariants as part
 use Rattle.zig_parse.specs.declared.thread.Frame.{Frame}
 use Rattle.zig_parse.specs.declared.thread.Item.{Item}
 use Rattle.zig_parse.specs.declared.thread.Thread.{Thread}
@@ -42,6 +45,19 @@ is_braced rule.Block = true
 is_braced rule.Initializer = true
 is_braced rule.ContainerBody = true
 is_braced _ = false
+
+-- whether a group begins with a brace
+abbrev pub has_braces : Group → Bool
+has_braces group.ErrorBraces = true
+has_braces group.SwitchBraces = true
+has_braces _ = false
+
+-- whether a brace begins this part, and ends it: the first pass reads it by threads of its own
+abbrev pub is_apart : Part → Bool
+is_apart (part.Token _) = false
+is_apart (part.OneOf _) = false
+is_apart (part.Rule r) = is_braced r
+is_apart (part.Group g) = has_braces g
 
 -- whether a second part follows the part that this rule derives
 unfoldable pub is_never_alone : Rule → Bool
@@ -91,6 +107,13 @@ met_from r t (f ∷ fs) = if not f.solid && (nat_lt 0 f.parts || is_never_alone 
 unfoldable pub met : Rule → Thread → Thread
 met r t = met_from r t t.frames
 
+-- where a part begins that is a rule, the node around it is met
+abbrev pub met_part : Part → Thread → Thread
+met_part (part.Rule r) t = met r t
+met_part (part.Token _) t = t
+met_part (part.OneOf _) t = t
+met_part (part.Group _) t = t
+
 -- a node is opened
 unfoldable pub opened : Rule → Thread → Thread
 opened r t = record t {
@@ -130,6 +153,14 @@ after_read t = with_gain 0 (touched_from (passed t) t.frames)
 unfoldable pub received : ℕ → Thread → Thread
 received height t = record (with_gain height (passed t)) { deep = t.deep || is_deep t.depth height }
 
--- the thread that reads what a rule derives, before its node is opened
-unfoldable pub fresh : Rule → ℕ → Thread
+-- choices that were made inside a part come in front
+abbrev pub with_choices : List ℕ → Thread → Thread
+with_choices inner t = record t { choices = inner ++ t.choices }
+
+-- an open node around a group in braces, which the nodes in the group are put in
+abbrev pub surround : Frame
+surround = record { rule = rule.Atom; parts = 0; height = 0; solid = true }
+
+-- the thread that reads what a part derives, before a node is opened
+unfoldable pub fresh : Part → ℕ → Thread
 fresh r d = record { goal = r; items = []; frames = []; depth = d; deep = false; choices = [] }

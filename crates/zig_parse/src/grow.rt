@@ -155,7 +155,7 @@ fn sprout(alloc: Global, look: Look) -> Result<Growth, AllocError>
     ensures { IfOk result (λ g. grown g ≡ spec.sprout look) }
 {
     Ok(Growth {
-        thread: begin(alloc, Rule::Root, 0, look)?,
+        thread: begin(alloc, Part::Rule(Rule::Root), 0, look)?,
         built: Built::new(alloc),
     })
 }

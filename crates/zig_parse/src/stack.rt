@@ -1,5 +1,5 @@
 // A list that grows and shrinks at its front.
-ghost use Rattle.std.specs.Prelude.{◌≡◌, ◌∷◌, [], length, if◌then◌else◌, is_ok, IfOk, reverse};
+ghost use Rattle.std.specs.Prelude.{◌≡◌, ◌∷◌, ◌++◌, [], length, if◌then◌else◌, is_ok, IfOk, OnOk, reverse};
 ghost use Rattle.zig_parse.specs.Stack.{Popped, Topped, with_first};
 
 use std::alloc::{AllocError, Global};
@@ -84,6 +84,13 @@ impl<T: Copy> Stack<T> {
         if n > 0 {
             self.inner[n - 1] = x;
         }
+    }
+
+    /// Puts the values of another list in front, in its order.
+    pub fn put_front(&mut self, other: &Stack<T>) -> Result<(), AllocError>
+        ensures { OnOk result (self.new ≡ other.now ++ self.old) }
+    {
+        self.inner.extend_from_slice(other.inner.as_slice())
     }
 
     pub fn copy(&self, alloc: Global) -> Result<Stack<T>, AllocError>

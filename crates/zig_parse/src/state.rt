@@ -13,7 +13,7 @@ use crate::survey::{
 };
 use crate::thread::Thread;
 use std::alloc::{AllocError, Global};
-use zig_tree::{Rule, Token, TokenKind};
+use zig_tree::{Part, Rule, Token, TokenKind};
 
 /// What is known after some tokens.
 #[derive(Debug, Drop)]
@@ -43,7 +43,7 @@ pub fn look_at(tokens: &[Token], at: u32) -> Look
     Look { kind, next }
 }
 
-/// The threads that can read the token, or, at a brace that begins a rule, those that read the rule.
+/// The threads that can read the token, or, at a brace that begins a part, those that read the part.
 #[tactic(auto, unfolding(crate::specs::Surveys::entered, crate::specs::Surveys::entered_waiting))]
 fn enter(
     alloc: Global,
@@ -65,20 +65,18 @@ fn enter(
 }
 
 /// The threads after the token, those that waited for it where it ends what a brace began.
-#[tactic(auto, unfolding(crate::specs::Surveys::left, crate::specs::Surveys::left_waiting, crate::specs::Surveys::left_marks))]
+#[tactic(auto, unfolding(crate::specs::Surveys::left, crate::specs::Surveys::left_waiting))]
 fn leave(
     alloc: Global,
     live: Vec<Thread>,
     waiting: &mut Stack<Stack<Thread>>,
-    chosen: &mut Vec<bool>,
     look: Look,
 ) -> Result<Vec<Thread>, AllocError>
     ensures live { IfOk result (λ v. v.items ≡ spec.left look live.items waiting.old) }
     ensures waiting { OnOk result (waiting.new ≡ spec.left_waiting look live.items waiting.old) }
-    ensures marks { OnOk result (chosen.new.items ≡ spec.left_marks look live.items chosen.old.items) }
 {
     if is_closed(live.as_slice(), look) {
-        let found = results(alloc, Stack::of(live), chosen)?;
+        let found = results(alloc, Stack::of(live))?;
         match waiting.pop() {
             Some(those) => resumed(alloc, those, found.as_slice()),
             None => Ok(Vec::new(alloc)),
@@ -105,7 +103,7 @@ fn read(
     let ready = settle(alloc, live, look, at)?;
     let ready = enter(alloc, ready, &mut waiting, look)?;
     let live = after_token(alloc, ready)?;
-    let live = leave(alloc, live, &mut waiting, chosen, look)?;
+    let live = leave(alloc, live, &mut waiting, look)?;
     let verdict = judge(live.as_slice());
     let live = settle_choices(alloc, Stack::of(live), chosen)?;
     Ok((State { waiting, live }, verdict))
@@ -117,7 +115,7 @@ fn first(alloc: Global, look: Look) -> Result<State, AllocError>
     ensures { IfOk result (λ s. s ≡ first_state look) }
 {
     let mut live = Stack::new(alloc);
-    live.push(begin(alloc, Rule::Root, 0, look)?)?;
+    live.push(begin(alloc, Part::Rule(Rule::Root), 0, look)?)?;
     Ok(State {
         waiting: Stack::new(alloc),
         live,

@@ -1,19 +1,20 @@
 // The first pass: every way to read the tokens, until one way is left or none.
 //
-// A brace that begins a block, the values of a container or its members is read by threads of their
-// own, one for each of the three rules that is wanted there, and the threads that want it wait. So
-// however many ways there are to read what lies around a brace, what lies in it is read once.
+// What a brace begins (a block, the values of a container or its members, the names of errors, the
+// prongs of a switch) is read by threads of its own, one for each of these parts that is wanted there,
+// and the threads that want it wait. So however many ways there are to read what lies around a brace,
+// what lies in it is read once for each part.
 ghost use Rattle.std.specs.Prelude.{◌≡◌, ◌++◌, IfOk, OnOk, None, [], map};
-ghost use Rattle.zig_tree.specs.Grammar.{rule_rows};
-ghost use Rattle.zig_parse.specs.Passes.{all_marked, begun, begun_for, finished, marked};
+ghost use Rattle.zig_parse.specs.Choices.{offered};
+ghost use Rattle.zig_parse.specs.Passes.{begun, begun_for, enclosed, finished, lent_one, marked, own_height, part_choices};
 ghost use Rattle.zig_parse.specs.Moves.{waits_for};
 ghost use Rattle.zig_parse.specs.Passes as spec;
 
-use crate::choice::{Choice, Look, rule_choice};
+use crate::choice::{Choice, Look, group_choice, rule_choice};
 use crate::stack::Stack;
 use crate::thread::{LIMIT, Thread, same_future};
 use std::alloc::{AllocError, Global};
-use zig_tree::{Rule, TokenKind, same_kind, same_rule};
+use zig_tree::{Group, Part, Rule, TokenKind, same_kind, same_part};
 
 /// What became of the tokens so far.
 #[derive(Clone, Copy, Debug)]
@@ -23,33 +24,57 @@ pub enum Verdict {
     TooDeep,
 }
 
-/// What another thread read: the rule, and how many nodes lie one in the other.
-#[derive(Clone, Copy, Debug)]
+/// What another thread read: the part, how many nodes lie one in the other, and the numbers of the
+/// tokens at which the second alternative was taken.
+#[derive(Debug, Drop)]
 pub struct Finished {
-    pub goal: Rule,
+    pub goal: Part,
     pub height: u32,
+    pub choices: Stack<u32>,
 }
 
-/// The thread that reads what a rule derives.
+/// The alternatives of a part that may be taken.
+fn part_choice(goal: Part, look: Look) -> Choice
+    ensures { offered result ≡ part_choices look goal }
+{
+    match goal {
+        Part::Rule(rule) => rule_choice(rule, look),
+        Part::Group(group) => group_choice(group, look),
+        Part::Token(_) | Part::OneOf(_) => Choice::Nothing,
+    }
+}
+
+/// Opens the node in which a part is read: one of its own for a rule, the one around for a group.
+fn enclose(thread: &mut Thread, goal: Part) -> Result<(), AllocError>
+    ensures { OnOk result (thread.new ≡ enclosed goal thread.old) }
+{
+    match goal {
+        Part::Rule(rule) => thread.open(rule),
+        Part::Group(_) => thread.surround(),
+        Part::Token(_) | Part::OneOf(_) => Ok(()),
+    }
+}
+
+/// The thread that reads what a part derives.
 #[tactic(auto, unfolding(crate::specs::Passes::begun))]
-pub fn begin(alloc: Global, goal: Rule, depth: u32, look: Look) -> Result<Thread, AllocError>
+pub fn begin(alloc: Global, goal: Part, depth: u32, look: Look) -> Result<Thread, AllocError>
     ensures { IfOk result (λ t. t ≡ begun look goal depth) }
 {
     let mut thread = Thread::begin(alloc, goal, depth);
-    thread.open(goal)?;
-    if let Choice::One(parts) = rule_choice(goal, look) {
+    enclose(&mut thread, goal)?;
+    if let Choice::One(parts) = part_choice(goal, look) {
         thread.put(parts)?;
     }
     Ok(thread)
 }
 
-/// Whether a thread waits for a rule.
+/// Whether a thread waits for a part.
 #[tactic(auto, unfolding(crate::specs::Passes::wants))]
-fn wants(thread: &Thread, goal: Rule) -> bool
+fn wants(thread: &Thread, goal: Part) -> bool
     ensures { result ≡ spec.wants thread.now goal }
 {
     match thread.waits_for() {
-        Some(rule) => same_rule(rule, goal),
+        Some(part) => same_part(part, goal),
         None => false,
     }
 }
@@ -61,8 +86,8 @@ pub fn those_waiting(alloc: Global, mut ready: Stack<Thread>) -> Result<Vec<Thre
 {
     let mut waiting = Vec::new(alloc);
     while let Some(mut thread) = ready.pop() {
-        if let Some(rule) = thread.waits_for() {
-            thread.meet(rule);
+        if let Some(part) = thread.waits_for() {
+            thread.meet_part(part);
             waiting.push(thread)?;
         }
     }
@@ -99,9 +124,9 @@ fn least_with(depth: u32, least: Option<u32>) -> u32
     }
 }
 
-/// How deep the node around the brace lies in the shallowest way to read a rule there.
+/// How deep the node around the brace lies in the shallowest way to read a part there.
 #[tactic(auto, using(crate::proofs::Slices::slice_steps))]
-fn least_depth(waiting: &[Thread], goal: Rule) -> Option<u32>
+fn least_depth(waiting: &[Thread], goal: Part) -> Option<u32>
     ensures { result ≡ spec.least_from None goal waiting.now }
 {
     let mut least = None;
@@ -113,11 +138,11 @@ fn least_depth(waiting: &[Thread], goal: Rule) -> Option<u32>
     least
 }
 
-/// Puts a thread for a rule that begins with the brace in front, where one waits for it.
+/// Puts a thread for a part that begins with the brace in front, where one waits for it.
 fn begin_wanted(
     alloc: Global,
     waiting: &[Thread],
-    goal: Rule,
+    goal: Part,
     look: Look,
     live: &mut Stack<Thread>,
 ) -> Result<(), AllocError>
@@ -135,9 +160,35 @@ pub fn inside(alloc: Global, waiting: &[Thread], look: Look) -> Result<Stack<Thr
     ensures { IfOk result (λ live. live ≡ spec.inside look waiting.now) }
 {
     let mut live = Stack::new(alloc);
-    begin_wanted(alloc, waiting, Rule::ContainerBody, look, &mut live)?;
-    begin_wanted(alloc, waiting, Rule::Initializer, look, &mut live)?;
-    begin_wanted(alloc, waiting, Rule::Block, look, &mut live)?;
+    begin_wanted(
+        alloc,
+        waiting,
+        Part::Group(Group::SwitchBraces),
+        look,
+        &mut live,
+    )?;
+    begin_wanted(
+        alloc,
+        waiting,
+        Part::Group(Group::ErrorBraces),
+        look,
+        &mut live,
+    )?;
+    begin_wanted(
+        alloc,
+        waiting,
+        Part::Rule(Rule::ContainerBody),
+        look,
+        &mut live,
+    )?;
+    begin_wanted(
+        alloc,
+        waiting,
+        Part::Rule(Rule::Initializer),
+        look,
+        &mut live,
+    )?;
+    begin_wanted(alloc, waiting, Part::Rule(Rule::Block), look, &mut live)?;
     Ok(live)
 }
 
@@ -189,41 +240,55 @@ fn commit(mut choices: Stack<u32>, chosen: &mut Vec<bool>)
     }
 }
 
+/// How many nodes lie one in the other in a part, of so many with the node in which it was read.
+fn height_in(goal: Part, height: u32) -> u32
+    ensures { result ≡ own_height goal height }
+{
+    match goal {
+        Part::Group(_) => height.saturating_sub(1),
+        Part::Rule(_) | Part::Token(_) | Part::OneOf(_) => height,
+    }
+}
+
+/// What a thread read, once its brace is closed.
+fn finish(mut thread: Thread) -> Finished
+    ensures { result ≡ finished thread }
+{
+    let height = thread.finish();
+    let Thread {
+        goal,
+        items: _,
+        frames: _,
+        depth: _,
+        deep: _,
+        choices,
+    } = thread;
+    Finished {
+        goal,
+        height: height_in(goal, height),
+        choices,
+    }
+}
+
 /// What the threads inside a brace read, once it is closed.
-#[tactic(auto, unfolding(crate::specs::Passes::all_marked))]
-pub fn results(
-    alloc: Global,
-    mut live: Stack<Thread>,
-    chosen: &mut Vec<bool>,
-) -> Result<Vec<Finished>, AllocError>
-    ensures found { IfOk result (λ v. v.items ≡ map finished live) }
-    ensures marks { OnOk result (chosen.new.items ≡ all_marked live chosen.old.items) }
+pub fn results(alloc: Global, mut live: Stack<Thread>) -> Result<Vec<Finished>, AllocError>
+    ensures { IfOk result (λ v. v.items ≡ map finished live) }
 {
     let mut found = Vec::new(alloc);
-    while let Some(mut thread) = live.pop() {
-        let height = thread.finish();
-        let Thread {
-            goal,
-            items: _,
-            frames: _,
-            depth: _,
-            deep: _,
-            choices,
-        } = thread;
-        commit(choices, chosen);
-        found.push(Finished { goal, height })?;
+    while let Some(thread) = live.pop() {
+        found.push(finish(thread))?;
     }
     Ok(found)
 }
 
-/// How many nodes lie one in the other in what was read for a rule.
+/// What was read for a part.
 #[tactic(auto, using(crate::proofs::Slices::slice_steps))]
-fn result_for(found: &[Finished], goal: Rule) -> Option<u32>
-    ensures { result ≡ spec.result_for found.now goal }
+fn result_for(found: &[Finished], goal: Part) -> Option<&Finished>
+    ensures { lent_one result ≡ spec.result_for found.now goal }
 {
     for finished in found {
-        if same_rule(finished.goal, goal) {
-            return Some(finished.height);
+        if same_part(finished.goal, goal) {
+            return Some(finished);
         }
     }
     None
@@ -234,9 +299,10 @@ fn resume(found: &[Finished], kept: &mut Vec<Thread>, mut thread: Thread) -> Res
     ensures { OnOk result (kept.new.items ≡ spec.resumed_by found.now kept.old.items thread (waits_for thread)) }
 {
     match thread.waits_for() {
-        Some(rule) => match result_for(found, rule) {
-            Some(height) => {
-                thread.receive(height);
+        Some(part) => match result_for(found, part) {
+            Some(finished) => {
+                thread.receive(finished.height);
+                thread.put_choices(&finished.choices)?;
                 keep(kept, thread)
             }
             None => Ok(()),

@@ -1,15 +1,15 @@
 // One way to read the tokens so far: what is still to come, and the nodes that are open.
-ghost use Rattle.std.specs.Prelude.{◌≡◌, OnOk, IfOk, Some, None};
-ghost use Rattle.zig_tree.specs.Kinds.{is_rule};
+ghost use Rattle.std.specs.Prelude.{◌≡◌, ◌∷◌, OnOk, IfOk, Some, None};
+ghost use Rattle.zig_tree.specs.Kinds.{is_part};
 ghost use Rattle.zig_parse.specs.Stack.{first};
 ghost use Rattle.zig_parse.specs.Moves as moves;
-ghost use Rattle.zig_parse.specs.Threads.{after_read, closed, fresh, hardened, is_deep, met, opened, received, replaced, risen, with_gain, with_part};
+ghost use Rattle.zig_parse.specs.Threads.{after_read, closed, fresh, hardened, is_deep, met, met_part, opened, received, replaced, risen, with_choices, with_gain, with_part};
 ghost use Rattle.zig_parse.specs.Threads as threads;
 
 use crate::choice::Look;
 use crate::stack::Stack;
 use std::alloc::{AllocError, Global};
-use zig_tree::{Part, Rule, TokenKind, same_part};
+use zig_tree::{Group, Part, Rule, TokenKind, same_part};
 
 /// No node of a tree lies deeper than this; the root lies at 1.
 pub const LIMIT: u32 = 200;
@@ -33,12 +33,12 @@ pub struct Item {
     pub level: usize,
 }
 
-/// One way to read the tokens since a brace: the rule that the brace begins, what is to come up to the
+/// One way to read the tokens since a brace: the part that the brace begins, what is to come up to the
 /// closing brace, the open nodes, how deep the innermost of them lies, whether a token lies too deep,
 /// and the numbers of the tokens at which the second alternative was taken.
 #[derive(Debug, Drop)]
 pub struct Thread {
-    pub goal: Rule,
+    pub goal: Part,
     pub items: Stack<Item>,
     pub frames: Stack<Frame>,
     pub depth: u32,
@@ -54,7 +54,7 @@ pub enum Move {
     /// It replaces a rule.
     Rule(Rule),
     /// It replaces a group.
-    Group(zig_tree::Group),
+    Group(Group),
     /// It reads the token.
     Read,
     /// It can't read the token.
@@ -95,19 +95,30 @@ fn is_braced(rule: Rule) -> bool
     matches!(rule, Rule::Block | Rule::Initializer | Rule::ContainerBody)
 }
 
+/// Whether a group begins with a brace.
+fn has_braces(group: Group) -> bool
+    ensures { result ≡ threads.has_braces group }
+{
+    matches!(group, Group::ErrorBraces | Group::SwitchBraces)
+}
+
+/// Whether a brace begins a part, and ends it: the first pass reads it by threads of its own.
+fn is_apart(part: Part) -> bool
+    ensures { result ≡ threads.is_apart part }
+{
+    match part {
+        Part::Rule(rule) => is_braced(rule),
+        Part::Group(group) => has_braces(group),
+        Part::Token(_) | Part::OneOf(_) => false,
+    }
+}
+
 /// Whether a second part follows the part that a rule derives.
 #[tactic(auto, unfolding(crate::specs::Threads::is_never_alone))]
 fn is_never_alone(rule: Rule) -> bool
     ensures { result ≡ threads.is_never_alone rule }
 {
     matches!(rule, Rule::TypePrefix)
-}
-
-/// Whether two rules that begin with a brace are the same.
-pub fn same_goal(a: Rule, b: Rule) -> bool
-    ensures { result ≡ is_rule a b }
-{
-    zig_tree::same_rule(a, b)
 }
 
 impl Frame {
@@ -135,9 +146,9 @@ impl Frame {
 }
 
 impl Thread {
-    /// The thread that reads what a rule derives, in a node at this depth.
+    /// The thread that reads what a part derives, in a node at this depth.
     #[tactic(auto, unfolding(crate::specs::Threads::fresh))]
-    pub fn begin(alloc: Global, goal: Rule, depth: u32) -> Thread
+    pub fn begin(alloc: Global, goal: Part, depth: u32) -> Thread
         ensures { result ≡ fresh goal depth }
     {
         Thread {
@@ -164,7 +175,7 @@ impl Thread {
         })
     }
 
-    /// What the thread does next, where braces that begin a rule are read by a thread of their own or not.
+    /// What the thread does next, where what stands in braces is read by a thread of its own or not.
     #[tactic(auto, unfolding(crate::specs::Moves::next_move))]
     pub fn next_move(&self, look: Look, apart: bool) -> Move
         ensures { result ≡ moves.next_move look apart self.now }
@@ -185,23 +196,26 @@ impl Thread {
                     Move::Rule(rule)
                 }
             }
-            Part::Group(group) => Move::Group(group),
+            Part::Group(group) => {
+                if apart && has_braces(group) {
+                    reading(zig_tree::same_kind(look.kind, TokenKind::LeftBrace))
+                } else {
+                    Move::Group(group)
+                }
+            }
         }
     }
 
-    /// The rule that begins with the next token, a brace, and that another thread reads.
+    /// The part that begins with the next token, a brace, and that another thread reads.
     #[tactic(auto, unfolding(crate::specs::Moves::waits_for))]
-    pub fn waits_for(&self) -> Option<Rule>
+    pub fn waits_for(&self) -> Option<Part>
         ensures { result ≡ moves.waits_for self.now }
     {
-        match self.items.top() {
-            Some(
-                Item {
-                    part: Part::Rule(rule),
-                    ..
-                },
-            ) => Some(rule),
-            _ => None,
+        let item = self.items.top()?;
+        if is_apart(item.part) {
+            Some(item.part)
+        } else {
+            None
         }
     }
 
@@ -247,6 +261,27 @@ impl Thread {
                 self.harden(frame);
             }
         }
+    }
+
+    /// Where a part begins that is a rule, the innermost node meets it.
+    pub fn meet_part(&mut self, part: Part)
+        ensures { self.new ≡ met_part part self.old }
+    {
+        if let Part::Rule(rule) = part {
+            self.meet(rule);
+        }
+    }
+
+    /// Puts what is read in a node that stands for the one around it.
+    pub fn surround(&mut self) -> Result<(), AllocError>
+        ensures { OnOk result (self.new ≡ record self.old { frames = threads.surround ∷ self.old.frames }) }
+    {
+        self.frames.push(Frame {
+            rule: Rule::Atom,
+            parts: 0,
+            height: 0,
+            solid: true,
+        })
     }
 
     /// Opens a node.
@@ -337,6 +372,13 @@ impl Thread {
         self.deep = self.deep || is_below_limit(self.depth, height);
     }
 
+    /// Choices that were made inside a part come in front.
+    pub fn put_choices(&mut self, inner: &Stack<u32>) -> Result<(), AllocError>
+        ensures { OnOk result (self.new ≡ with_choices inner.now self.old) }
+    {
+        self.choices.put_front(inner)
+    }
+
     /// Closes all nodes, and gives how many lie one in the other.
     #[tactic(auto, unfolding(crate::specs::Threads::risen))]
     pub fn finish(&mut self) -> u32
@@ -372,7 +414,7 @@ fn is_below_limit(depth: u32, height: u32) -> bool
 pub fn same_future(a: &Thread, b: &Thread) -> bool
     ensures { result ≡ moves.same_future a.now b.now }
 {
-    same_goal(a.goal, b.goal) && same_items(a.items.as_slice(), b.items.as_slice())
+    same_part(a.goal, b.goal) && same_items(a.items.as_slice(), b.items.as_slice())
 }
 
 /// Whether two lists of what is to come have the same parts.
