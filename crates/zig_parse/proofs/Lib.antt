@@ -28,3 +28,4 @@ pub mod Ways
 pub mod Reading
 pub mod Operands
 pub mod Bodies
+pub mod Choosing
