@@ -29,3 +29,4 @@ pub mod Reading
 pub mod Operands
 pub mod Bodies
 pub mod Choosing
+pub mod Surely
