@@ -278,7 +278,7 @@ expression_rest bound k tokens n far bodies t l d e =
     elim (else_expression_or_none k s.0 far s.3) [
       | inl r ↦ inl (same_length far n (plain_rest k s.0 n far t s.2 r))
       | inr m ↦ else_rest bound k tokens m.0 n far bodies t l (subst (Reads (part.Rule rule.Or ∷ []) tokens) m.1 s.1)
-      (subst (λ (l : List TokenKind). Reads (part.Group group.AssignTail ∷ part.Group group.RestEnd ∷ []) l n) m.1 s.2) (subst (λ (l : List TokenKind). Reads (part.Group group.ElseExpression ∷ k) l far) m.1 s.3)
+          (subst (λ (l : List TokenKind). Reads (part.Group group.AssignTail ∷ part.Group group.RestEnd ∷ []) l n) m.1 s.2) (subst (λ (l : List TokenKind). Reads (part.Group group.ElseExpression ∷ k) l far) m.1 s.3)
     ]
 
 rest_row : (bound : ℕ) (k : List Part) (a : Alternative) (tokens n far : List TokenKind) → Bodies bound → Trail statement_end k → length tokens ≤ bound → Among a (rule_rows rule.Rest)
@@ -517,5 +517,5 @@ rest_choice tokens n far d e =
     elim (block_led (part.Group group.AssignTail ∷ part.Group group.RestEnd ∷ []) tokens n far d o) [
       | inl l ↦ inl l
       | inr r ↦ inr (joined_read (part.Rule rule.Block ∷ []) (part.Group group.ElseOption ∷ []) tokens (kind.KeywordElse ∷ r.more) far r.block
-      (else_body_made r.more far (rest_end_read r.more far (no_assign_tail (part.Group group.RestEnd ∷ []) r.more far r.others))))
+          (else_body_made r.more far (rest_end_read r.more far (no_assign_tail (part.Group group.RestEnd ∷ []) r.more far r.others))))
     ]

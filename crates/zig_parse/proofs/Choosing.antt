@@ -134,11 +134,10 @@ taken_by later tokens end rows a none_open m f = elim m [ ]
 taken_by later tokens end rows a (one_open x) (inl e) f = ([], subst (λ (c : Alternative). Taken later tokens end (x ∷ []) c []) (sym e) (taken_sole x))
 taken_by later tokens end rows a (one_open x) (inr n) f = elim n [ ]
 taken_by later tokens end rows a (two_open x y d) (inl e) f = (false ∷ [], subst (λ (c : Alternative). Taken later tokens end (x ∷ y ∷ []) c (false ∷ [])) (sym e) (taken_first x y))
-taken_by later tokens end rows a (two_open x y d) (inr (inl e)) f =
-    (
-      true ∷ [],
-      subst (λ (c : Alternative). Taken later tokens end (x ∷ y ∷ []) c (true ∷ [])) (sym e) (taken_second y x (f x (ap (λ (c : Alternative). x ∷ c ∷ []) (sym e)))),
-    )
+taken_by later tokens end rows a (two_open x y d) (inr (inl e)) f = (
+  true ∷ [],
+  subst (λ (c : Alternative). Taken later tokens end (x ∷ y ∷ []) c (true ∷ [])) (sym e) (taken_second y x (f x (ap (λ (c : Alternative). x ∷ c ∷ []) (sym e)))),
+)
 taken_by later tokens end rows a (two_open x y d) (inr (inr n)) f = elim n [ ]
 
 -- no way by one of some alternatives, before what comes later, ends sooner than here
@@ -153,8 +152,8 @@ first_leads_nowhere rows a later tokens mid end settled d first least b e p i =
     let never : Reads b.parts tokens mid → ⊥ = λ r. first (b ∷ []) [] e b (inl refl) r.0 r.1 in
     elim (settled b a s.0 mid e s.1 d) [
       | inl high ↦ let x = read_front b.parts tokens s.0 s.1.0 s.1.1 in
-      let y = read_front a.parts tokens mid d.0 d.1 in
-      never (subst (Reads b.parts tokens) (same_ends x.0 y.0 s.0 mid (sym x.1 ∙ y.1) (omega arith)) s.1)
+          let y = read_front a.parts tokens mid d.0 d.1 in
+          never (subst (Reads b.parts tokens) (same_ends x.0 y.0 s.0 mid (sym x.1 ∙ y.1) (omega arith)) s.1)
       | inr r ↦ never r
     ]
 

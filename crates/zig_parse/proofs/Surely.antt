@@ -148,7 +148,7 @@ group_least g ps behind tokens mid next end h d e b least n f i =
         | inr u ↦ last_least (part.Group g) ps behind tokens mid next end (and_parts (is_final g) (is_last ps) u).1 e least n f i
       ]
       | inr t ↦ let s = and_parts (is_statements g) (is_brace (ps ++ behind)) t in
-      same_least n mid (brace_before (ps ++ behind) n end s.1 i ∙ sym (brace_before (ps ++ behind) mid end s.1 (joined_read ps behind mid next end e b)))
+          same_least n mid (brace_before (ps ++ behind) n end s.1 i ∙ sym (brace_before (ps ++ behind) mid end s.1 (joined_read ps behind mid next end e b)))
     ]
 
 rule_least : (r : Rule) (ps behind : List Part) (tokens mid next end : List TokenKind) → is_kept_rule r ps ≡ true → Reads (part.Rule r ∷ []) tokens mid → Reads ps mid next
@@ -219,20 +219,18 @@ rule_before : (r : Rule) (all : List Part) (qs behind : List Part) (tokens mid n
     → Sure qs behind mid next end q g → HasForks (part.Rule r ∷ qs) behind tokens next end (followed p q)
 rule_before r all qs behind tokens mid next end p q f g (sure_rule _ a _ _ _ x _ _ inside later choices inner outer n t i o) e s =
     let none = none_sure all x mid end later outer o in
-    let same : followed (made r inside) q ≡ followed (followed (made r inside) later) q = ap (λ (y : Pieces). followed y q) (sym (ap (followed (made r inside)) none.1 ∙ followed_nothing (made r inside))) in
-    (
+    let same : followed (made r inside) q ≡ followed (followed (made r inside) later) q = ap (λ (y : Pieces). followed y q) (sym (ap (followed (made r inside)) none.1 ∙ followed_nothing (made r inside))) in (
       noted tokens choices ++ (inner ++ g),
       subst (λ (y : Pieces). Sure (part.Rule r ∷ qs) behind tokens next end y (noted tokens choices ++ (inner ++ g))) same
-      (sure_rule r a qs behind tokens x next end inside q choices inner g n (subst (λ (w : List Part). Taken w tokens end (open_at tokens (rule_rows r)) a choices) e t)
-      (subst (λ (w : List Part). Sure a.parts w tokens x end inside inner) e i) (subst (λ (l : List TokenKind). Sure qs behind l next end q g) (sym none.0) s)),
+          (sure_rule r a qs behind tokens x next end inside q choices inner g n (subst (λ (w : List Part). Taken w tokens end (open_at tokens (rule_rows r)) a choices) e t)
+          (subst (λ (w : List Part). Sure a.parts w tokens x end inside inner) e i) (subst (λ (l : List TokenKind). Sure qs behind l next end q g) (sym none.0) s)),
     )
 rule_before r all qs behind tokens mid next end p q f g (sure_rule_apart _ a _ _ _ x _ _ inside later inner outer n u i o) e s =
     let none = none_sure all x mid end later outer o in
-    let same : followed (made r inside) q ≡ followed (followed (made r inside) later) q = ap (λ (y : Pieces). followed y q) (sym (ap (followed (made r inside)) none.1 ∙ followed_nothing (made r inside))) in
-    (
+    let same : followed (made r inside) q ≡ followed (followed (made r inside) later) q = ap (λ (y : Pieces). followed y q) (sym (ap (followed (made r inside)) none.1 ∙ followed_nothing (made r inside))) in (
       inner ++ g,
       subst (λ (y : Pieces). Sure (part.Rule r ∷ qs) behind tokens next end y (inner ++ g)) same
-      (sure_rule_apart r a qs behind tokens x next end inside q inner g n u i (subst (λ (l : List TokenKind). Sure qs behind l next end q g) (sym none.0) s)),
+          (sure_rule_apart r a qs behind tokens x next end inside q inner g n u i (subst (λ (l : List TokenKind). Sure qs behind l next end q g) (sym none.0) s)),
     )
 
 statements_sure : (ps behind : List Part) (tokens next others rest end : List TokenKind) (first more later : Pieces) → is_brace (ps ++ behind) ≡ true → IsShortest tokens next others
@@ -250,12 +248,11 @@ statements_sure ps behind tokens next others rest end first more later h shortes
     shortest n x.0 o.0 x.1 o.1)) in
     let j = further w end all (rw h refl) (λ n x y. same_least n others (brace_before w n end h y ∙ sym at)) in
     let both = rule_before rule.Statement (part.Group group.Statements ∷ w) (part.Group group.Statements ∷ []) w tokens next others end first more i.0 j.0 i.1 refl j.1 in
-    let t = statements_taken division w tokens end (division_open [] tokens next d.0 d.1) in
-    (
+    let t = statements_taken division w tokens end (division_open [] tokens next d.0 d.1) in (
       noted tokens t.0 ++ (both.0 ++ outer.0),
       subst (λ (y : Pieces). Sure (part.Group group.Statements ∷ ps) behind tokens rest end y (noted tokens t.0 ++ (both.0 ++ outer.0))) (followed_twice first more later)
-      (sure_group group.Statements division ps behind tokens others rest end (followed first more) later t.0 both.0 outer.0 refl t.1
-      (subst (λ (l : List Part). Sure l w tokens others end (followed first more) both.0) (sym division_parts) both.1) outer.1),
+          (sure_group group.Statements division ps behind tokens others rest end (followed first more) later t.0 both.0 outer.0 refl t.1
+          (subst (λ (l : List Part). Sure l w tokens others end (followed first more) both.0) (sym division_parts) both.1) outer.1),
     )
 
 -- ---- what is chosen
