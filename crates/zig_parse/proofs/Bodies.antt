@@ -1,11 +1,9 @@
 -- A statement that is an expression and a semicolon, beside the same tokens read as a statement of
 -- another form: the other one ends no later, or reads as far as well.
-use Rattle.std.proofs.Common.{◌≡◌, ℕ, zero, suc, ◌<◌, ◌≤◌, Bool, true, false, ◌⊎◌, inl, inr, List, [], ◌∷◌, ◌++◌, length, refl, sym, ◌∙◌, ap, subst, arith}
+use Rattle.std.proofs.Common.{◌≡◌, ℕ, zero, suc, ◌<◌, ◌≤◌, true, false, ◌⊎◌, inl, inr, List, [], ◌∷◌, ◌++◌, length, refl, sym, ◌∙◌, ap, subst, arith}
 use Rattle.zig_tree.specs.declared.token.TokenKind.{TokenKind}
 use Rattle.zig_tree.specs.declared.token.TokenKind.TheVariants as kind
-use Rattle.zig_tree.specs.declared.grammar.Rule.{Rule}
 use Rattle.zig_tree.specs.declared.grammar.Rule.TheVariants as rule
-use Rattle.zig_tree.specs.declared.grammar.Group.{Group}
 use Rattle.zig_tree.specs.declared.grammar.Group.TheVariants as group
 use Rattle.zig_tree.specs.declared.grammar.TokenClass.TheVariants as class
 use Rattle.zig_tree.specs.declared.grammar.When.TheVariants as when
@@ -16,7 +14,6 @@ use Rattle.zig_tree.specs.Grammar.{Alternative, row, group_rows, rule_rows}
 use Rattle.zig_tree.specs.GrammarSentences.{next_kind, open_at, Among, derives_none, nothing}
 use Rattle.zig_parse.proofs.Derived.{open_is_row}
 use Rattle.zig_parse.proofs.Shapes.{fills, is_closed}
-use Rattle.zig_parse.proofs.Tables.{same_kind}
 use Rattle.zig_parse.proofs.Begins.{expression_begins}
 use Rattle.zig_parse.proofs.Reading.{Reads, split_read, joined_read, none_read, token_read, group_read, rule_alone, group_alone, rule_opened, group_opened, rule_made, group_made, among_sole, closed_read, shorter_read, less_read, split_both}
 use Rattle.zig_parse.proofs.Operands.{tails, operand_read, ends_operand, Trail, trail_ends, tails_trail, trail_read, assign_tail}

@@ -1,9 +1,7 @@
 -- An expression that no prefix begins: its first operand, and the tails of its operators.
-use Rattle.std.proofs.Common.{◌≡◌, Bool, true, false, ◌⊎◌, inl, inr, List, [], ◌∷◌, ◌++◌, refl, sym, ap, subst}
-use Rattle.std.specs.Prelude.{if◌then◌else◌}
+use Rattle.std.proofs.Common.{◌≡◌, Bool, true, false, ◌⊎◌, inl, inr, List, [], ◌∷◌, refl, sym, subst}
 use Rattle.zig_tree.specs.declared.token.TokenKind.{TokenKind}
 use Rattle.zig_tree.specs.declared.token.TokenKind.TheVariants as kind
-use Rattle.zig_tree.specs.declared.grammar.Rule.{Rule}
 use Rattle.zig_tree.specs.declared.grammar.Rule.TheVariants as rule
 use Rattle.zig_tree.specs.declared.grammar.Group.{Group}
 use Rattle.zig_tree.specs.declared.grammar.Group.TheVariants as group
@@ -14,7 +12,7 @@ use Rattle.zig_tree.specs.declared.grammar.Part.TheVariants as part
 use Rattle.zig_tree.specs.Kinds.{is_kind, number_of, is_assign_operator, is_multiply_operator, is_add_operator, is_shift_operator, is_bit_operator, is_compare_operator, is_prefix_operator}
 use Rattle.zig_tree.specs.Grammar.{Alternative, row, group_rows, rule_rows}
 use Rattle.zig_tree.specs.GrammarSentences.{next_kind, open_at, Among}
-use Rattle.zig_parse.proofs.Reading.{Reads, none_read, token_read, class_read, group_read, rule_opened, group_opened}
+use Rattle.zig_parse.proofs.Reading.{Reads, none_read, class_read, rule_opened, group_opened}
 
 -- ---- the first operand
 

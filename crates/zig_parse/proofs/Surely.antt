@@ -1,6 +1,6 @@
 -- What is chosen is sure. No way to read its parts, before what comes after them, ends sooner: parts that
 -- end at one place see to that, and the shortest first statement does where a statement may go on.
-use Rattle.std.proofs.Common.{◌≡◌, ◌<◌, ◌≤◌, Bool, true, false, ◌&&◌, ◌||◌, ◌⊎◌, inl, inr, List, [], ◌∷◌, ◌++◌, length, Some, refl, sym, ◌∙◌, ap, subst, arith}
+use Rattle.std.proofs.Common.{◌≡◌, ◌≤◌, Bool, true, false, ◌&&◌, ◌||◌, ◌⊎◌, inl, inr, List, [], ◌∷◌, ◌++◌, length, Some, refl, sym, ◌∙◌, ap, subst, arith}
 use Rattle.std.proofs.lemmas.Bool.{and_parts, or_cases, cases_Bool}
 use Rattle.zig_tree.specs.declared.token.TokenKind.{TokenKind}
 use Rattle.zig_tree.specs.declared.token.TokenKind.TheVariants as kind
@@ -10,13 +10,13 @@ use Rattle.zig_tree.specs.declared.grammar.Group.{Group}
 use Rattle.zig_tree.specs.declared.grammar.Group.TheVariants as group
 use Rattle.zig_tree.specs.declared.grammar.Part.{Part}
 use Rattle.zig_tree.specs.declared.grammar.Part.TheVariants as part
-use Rattle.zig_tree.specs.Kinds.{is_group, number_of_group}
+use Rattle.zig_tree.specs.Kinds.{number_of_group}
 use Rattle.zig_tree.specs.Grammar.{Alternative, group_rows, rule_rows}
-use Rattle.zig_tree.specs.GrammarSentences.{Pieces, nothing, word, followed, made, open_at, Among, Derives, derives_none, derives_token, derives_one_of, IsFirst, IsShortest, is_division, Chosen, chooses_none, chooses_token, chooses_one_of, chooses_group, chooses_statements, chooses_rule, Sentence}
-use Rattle.zig_parse.specs.Threads.{is_apart, is_braced, has_braces}
+use Rattle.zig_tree.specs.GrammarSentences.{Pieces, nothing, word, followed, made, open_at, Among, derives_none, derives_token, derives_one_of, IsFirst, IsShortest, is_division, Chosen, chooses_none, chooses_token, chooses_one_of, chooses_group, chooses_statements, chooses_rule, Sentence}
+use Rattle.zig_parse.specs.Threads.{is_apart, is_braced}
 use Rattle.zig_parse.specs.Ways.{Fork, Taken, Sure, noted, sure_none, sure_token, sure_one_of, sure_group, sure_rule, sure_group_apart, sure_rule_apart}
 use Rattle.zig_parse.proofs.Derived.{open_is_row, row_tested, each_row, followed_nothing, followed_twice}
-use Rattle.zig_parse.proofs.Shapes.{is_closed, is_closed_rule, is_closed_group, is_closed_before, is_tag, begins_closing, is_statements}
+use Rattle.zig_parse.proofs.Shapes.{is_closed_rule, is_closed_group, is_closed_before, is_tag, begins_closing, is_statements}
 use Rattle.zig_parse.proofs.Ends.{tag_read}
 use Rattle.zig_parse.proofs.Unique.{chosen_derives}
 use Rattle.zig_parse.proofs.Begins.{division, division_parts, division_open}
