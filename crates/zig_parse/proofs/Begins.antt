@@ -259,3 +259,7 @@ division_if false h = absurd (cc)
 pub division_open : (ps : List Part) (tokens rest : List TokenKind) (p : Pieces) → Derives (part.Rule rule.Statement ∷ ps) tokens rest p → Among division (open_at tokens (group_rows group.Statements))
 unfolding division group_rows
 division_open ps tokens rest p d = division_if (is_statement_start (next_kind tokens)) (statement_begins ps tokens rest p d)
+
+pub expression_begins : (ps : List Part) (tokens rest : List TokenKind) (p : Pieces) → Derives (part.Rule rule.Or ∷ ps) tokens rest p → is_expression_start (next_kind tokens) ≡ true
+unfolding leads leads_rule
+expression_begins ps tokens rest p d = begins (part.Rule rule.Or ∷ ps) tokens rest p d

@@ -21,11 +21,11 @@ use Rattle.zig_parse.proofs.Balance.{brackets_pair}
 
 -- ---- one alternative alone may be taken
 
-both_when : (a b : Alternative) (t : Bool) (x y : List Alternative) → Among a (if t then x else y) → Among b (if t then x else y) → (Among a x × Among b x) ⊎ (Among a y × Among b y)
+pub both_when : (a b : Alternative) (t : Bool) (x y : List Alternative) → Among a (if t then x else y) → Among b (if t then x else y) → (Among a x × Among b x) ⊎ (Among a y × Among b y)
 both_when a b true x y m n = inl (m, n)
 both_when a b false x y m n = inr (m, n)
 
-sole_shared : (tokens : List TokenKind) (a c : Alternative) (w : When) (more : List Alternative) → is_sole w ≡ true → Among a (with_shared tokens c w more) → a ≡ c
+pub sole_shared : (tokens : List TokenKind) (a c : Alternative) (w : When) (more : List Alternative) → is_sole w ≡ true → Among a (with_shared tokens c w more) → a ≡ c
 sole_shared tokens a c (when.Both _) more h m = absurd (cc)
 sole_shared tokens a c when.Always more h (inl e) = e
 sole_shared tokens a c when.Always more h (inr n) = elim n [ ]

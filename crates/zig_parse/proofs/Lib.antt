@@ -32,3 +32,8 @@ pub mod Gathered
 pub mod Goes
 pub mod SureGoes
 pub mod SureGrown
+pub mod Reading
+pub mod Operands
+pub mod Bodies
+pub mod Choosing
+pub mod Surely

@@ -30,7 +30,7 @@ found a = λ k. k a
 
 -- ---- the alternatives that may be taken
 
-data OpenForm : List Alternative → Type 0 where
+pub data OpenForm : List Alternative → Type 0 where
   none_open : OpenForm []
   one_open : (x : Alternative) → OpenForm (x ∷ [])
   two_open : (x y : Alternative) → (x ≡ y → ⊥) → OpenForm (x ∷ y ∷ [])
@@ -60,7 +60,7 @@ shared_form tokens a (when.Is _) more e h = one_open a
 shared_form tokens a (when.In _) more e h = one_open a
 shared_form tokens a when.Label more e h = one_open a
 
-open_form : (tokens : List TokenKind) (rows : List Alternative) → are_apart rows ≡ true → OpenForm (open_at tokens rows)
+pub open_form : (tokens : List TokenKind) (rows : List Alternative) → are_apart rows ≡ true → OpenForm (open_at tokens rows)
 open_form tokens [] h = none_open
 open_form tokens (a ∷ more) h =
     let s = and_parts (is_apart_from a.at more) (are_apart more) h in

@@ -11,6 +11,7 @@ use Rattle.zig_parse.specs.declared.thread.Thread.{Thread}
 use Rattle.zig_parse.specs.Growth.{parse_of}
 use Rattle.zig_parse.specs.Moves.{moves_for_all, settled, settled_all}
 use Rattle.zig_parse.specs.Trees.{HoldsAll}
+use Rattle.zig_parse.specs.Ways.{Fork, Sure}
 
 -- a list of tokens has at most one tree
 abbrev pub OneTree : Type 0
@@ -34,6 +35,11 @@ OneReason = (tokens : List TokenKind) (a b : ℕ) → IsUnexpected tokens a → 
 -- what the rules derive is a sentence: it can't be that it has no tree that is preferred
 abbrev pub DerivedIsSentence : Type 0
 DerivedIsSentence = (tokens : List TokenKind) (tree : Pieces) → Derives (part.Rule rule.Root ∷ []) tokens [] tree → ((x : Pieces) → Sentence tokens x → ⊥) → ⊥
+
+-- a tree that the tie-breaks choose is sure: with its choices, at each of which where the second alternative
+-- is taken the first, with what comes after it, leads nowhere
+abbrev pub ChosenIsSure : Type 0
+ChosenIsSure = (tokens : List TokenKind) (tree : Pieces) → Sentence tokens tree → (forks : List Fork) × Sure (part.Rule rule.Root ∷ []) [] tokens [] [] tree forks
 
 -- more moves at a token give the same threads
 abbrev pub MovesSuffice : Type 0

@@ -7,5 +7,6 @@ pub mod Surveys
 pub mod Nodes
 pub mod Growth
 pub mod Grows
+pub mod Ways
 pub mod Laws
 pub mod Trees

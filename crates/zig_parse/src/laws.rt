@@ -1,5 +1,5 @@
 // Laws of the grammar and of the function on lists that the parser computes. They have no code.
-ghost use Rattle.zig_parse.specs.Laws.{DerivedIsSentence, MovesSuffice, NeverBoth, OneReason, OneRefusal, OneTree, ReadsTree};
+ghost use Rattle.zig_parse.specs.Laws.{ChosenIsSure, DerivedIsSentence, MovesSuffice, NeverBoth, OneReason, OneRefusal, OneTree, ReadsTree};
 
 /// A list of tokens has at most one tree.
 pub fn one_tree()
@@ -26,4 +26,10 @@ pub fn derived_is_sentence()
 /// At a token each thread has no more moves than its open nodes and the things to come tell.
 pub fn moves_suffice()
     ensures { MovesSuffice }
+{}
+
+/// A tree that the tie-breaks choose is sure: where the second of two alternatives is taken, the first
+/// leads nowhere, with whatever comes after it in the same braces.
+pub fn chosen_is_sure()
+    ensures { ChosenIsSure }
 {}

@@ -5,9 +5,9 @@
 //! a time, and finds the refused token or which way holds; a second pass takes that way and builds
 //! its tree. `parse_of` is both passes as one function on lists. What a tree of it holds is derived by
 //! the grammar's rules, token by token (`specs/Trees.antt`).
-//! Public calls: `parse`. `one_tree`, `one_answer`, `derived_is_sentence`, `tree_is_derived` and
-//! `moves_suffice` are laws without code (`specs/Laws.antt`). The crate stands on `zig_tree` and
-//! `zw_base`.
+//! Public calls: `parse`. `one_tree`, `one_answer`, `derived_is_sentence`, `chosen_is_sure`,
+//! `tree_is_derived` and `moves_suffice` are laws without code (`specs/Laws.antt`). The crate stands on
+//! `zig_tree` and `zw_base`.
 #![tactic(auto)]
 
 mod built;
@@ -23,7 +23,9 @@ mod survey;
 mod thread;
 
 pub use fault::SyntaxFault;
-pub use laws::{derived_is_sentence, moves_suffice, one_answer, one_tree, tree_is_derived};
+pub use laws::{
+    chosen_is_sure, derived_is_sentence, moves_suffice, one_answer, one_tree, tree_is_derived,
+};
 pub use parser::parse;
 
 #[cfg(test)]
