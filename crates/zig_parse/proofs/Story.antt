@@ -26,26 +26,26 @@ use Rattle.zig_parse.proofs.Spelled.{amount, spells_more, spells_joined, spells_
 
 -- ---- pieces
 
-amount_followed : (p q : Pieces) → amount (followed p q) ≡ amount p + amount q
+pub amount_followed : (p q : Pieces) → amount (followed p q) ≡ amount p + amount q
 amount_followed nothing q = omega arith
 amount_followed (word k more) q = omega (arith, amount_followed more q)
 amount_followed (node r inside more) q = omega (arith, amount_followed more q)
 
-several : (p : Pieces) → 2 ≤ amount p → is_one_node p ≡ false
+pub several : (p : Pieces) → 2 ≤ amount p → is_one_node p ≡ false
 several nothing h = absurd (omega arith)
 several (word k more) h = refl
 several (node r inside nothing) h = absurd (omega arith)
 several (node r inside (word k more)) h = refl
 several (node r inside (node q others more)) h = refl
 
-one_amount : (p : Pieces) → is_one_node p ≡ true → amount p ≡ 1
+pub one_amount : (p : Pieces) → is_one_node p ≡ true → amount p ≡ 1
 one_amount nothing h = absurd (cc)
 one_amount (word k more) h = absurd (cc)
 one_amount (node r inside nothing) h = refl
 one_amount (node r inside (word k more)) h = absurd (cc)
 one_amount (node r inside (node q others more)) h = absurd (cc)
 
-worded : (p q : Pieces) (k : TokenKind) → is_one_node (followed p (word k q)) ≡ false
+pub worded : (p q : Pieces) (k : TokenKind) → is_one_node (followed p (word k q)) ≡ false
 worded nothing q k = refl
 worded (word j more) q k = refl
 worded (node r inside nothing) q k = refl
@@ -56,13 +56,13 @@ if_not_second : (x y : Bool) (p q : Pieces) → y ≡ false → (if x && y then 
 if_not_second true y p q h = rw h refl
 if_not_second false y p q h = refl
 
-made_several : (r : Rule) (p : Pieces) → is_one_node p ≡ false → made r p ≡ node r p nothing
+pub made_several : (r : Rule) (p : Pieces) → is_one_node p ≡ false → made r p ≡ node r p nothing
 made_several r p h = if_not_second (makes_no_node_alone r) (is_one_node p) p (node r p nothing) h
 
-made_always : (r : Rule) (p : Pieces) → makes_no_node_alone r ≡ false → made r p ≡ node r p nothing
+pub made_always : (r : Rule) (p : Pieces) → makes_no_node_alone r ≡ false → made r p ≡ node r p nothing
 made_always r p h = rw h refl
 
-made_lone : (r : Rule) (p : Pieces) → makes_no_node_alone r ≡ true → is_one_node p ≡ true → made r p ≡ p
+pub made_lone : (r : Rule) (p : Pieces) → makes_no_node_alone r ≡ true → is_one_node p ≡ true → made r p ≡ p
 made_lone r p h k = rw (h, k) refl
 
 one_if : (x y : Bool) (r : Rule) (p : Pieces) → is_one_node p ≡ y → is_one_node (if x && y then p else node r p nothing) ≡ true
@@ -73,14 +73,14 @@ one_if false y r p h = refl
 pub made_one : (r : Rule) (p : Pieces) → is_one_node (made r p) ≡ true
 made_one r p = one_if (makes_no_node_alone r) (is_one_node p) r p refl
 
-piece_amount : (ps : List Part) (tokens rest : List TokenKind) (p : Pieces) → Derives ps tokens rest p → has_piece ps ≡ true → 0 < amount p
+pub piece_amount : (ps : List Part) (tokens rest : List TokenKind) (p : Pieces) → Derives ps tokens rest p → has_piece ps ≡ true → 0 < amount p
 piece_amount ps tokens rest p (derives_none _) h = absurd (cc)
 piece_amount ps tokens rest p (derives_token k more after _ later d) h = omega arith
 piece_amount ps tokens rest p (derives_one_of c k more after _ later e d) h = omega arith
 piece_amount ps tokens rest p (derives_group g a more _ next _ inside later m d e) h = let s = piece_amount more next rest later e h in omega (arith, amount_followed inside later)
 piece_amount ps tokens rest p (derives_rule r a more _ next _ inside later m d e) h = omega (arith, amount_followed (made r inside) later, one_amount (made r inside) (made_one r inside))
 
-height_followed : (p q : Pieces) → height (followed p q) ≡ max (height p) (height q)
+pub height_followed : (p q : Pieces) → height (followed p q) ≡ max (height p) (height q)
 height_followed nothing q = omega arith
 height_followed (word k more) q = height_followed more q
 height_followed (node r inside more) q = omega (arith, height_followed more q)
@@ -91,10 +91,10 @@ not_or : (x y : Bool) → (not x || y) ≡ true → x ≡ true → y ≡ true
 not_or true y h e = h
 not_or false y h e = absurd (cc)
 
-led_rest : (p : Part) (ps : List Part) → is_led (p ∷ ps) ≡ true → is_led ps ≡ true
+pub led_rest : (p : Part) (ps : List Part) → is_led (p ∷ ps) ≡ true → is_led ps ≡ true
 led_rest p ps h = (and_parts (not (is_before_more p) || has_piece ps) (is_led ps) h).1
 
-led_first : (p : Part) (ps : List Part) → is_led (p ∷ ps) ≡ true → is_before_more p ≡ true → has_piece ps ≡ true
+pub led_first : (p : Part) (ps : List Part) → is_led (p ∷ ps) ≡ true → is_before_more p ≡ true → has_piece ps ≡ true
 led_first p ps h e = not_or (is_before_more p) (has_piece ps) (and_parts (not (is_before_more p) || has_piece ps) (is_led ps) h).0 e
 
 piece_joined : (ps qs : List Part) → has_piece ps ≡ true → has_piece (ps ++ qs) ≡ true
@@ -120,7 +120,7 @@ prefixes_led a qs (inl e) h l = subst (λ (x : Alternative). is_led (x.parts ++ 
 prefixes_led a qs (inr (inl e)) h l = subst (λ (x : Alternative). is_led (x.parts ++ qs) ≡ true) (sym e) l
 prefixes_led a qs (inr (inr n)) h l = elim n [ ]
 
-group_keeps_led : (g : Group) (a : Alternative) (qs : List Part) → Among a (group_rows g) → is_led (part.Group g ∷ qs) ≡ true → is_led (a.parts ++ qs) ≡ true
+pub group_keeps_led : (g : Group) (a : Alternative) (qs : List Part) → Among a (group_rows g) → is_led (part.Group g ∷ qs) ≡ true → is_led (a.parts ++ qs) ≡ true
 group_keeps_led g a qs m h =
     elim (group_led g) [
       | inl e ↦ prefixes_led a qs (subst (λ (x : Group). Among a (group_rows x)) e m) (led_first (part.Group g) qs h (ap (λ (x : Group). is_before_more (part.Group x)) e)) (led_rest (part.Group g) qs h)
