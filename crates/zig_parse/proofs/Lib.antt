@@ -26,3 +26,4 @@ pub mod Costs
 pub mod LastToken
 pub mod Ways
 pub mod Depths
+pub mod Calm
