@@ -27,3 +27,4 @@ pub mod LastToken
 pub mod Ways
 pub mod Depths
 pub mod Calm
+pub mod Rises
