@@ -28,3 +28,4 @@ pub mod Ways
 pub mod Depths
 pub mod Calm
 pub mod Rises
+pub mod Follows
