@@ -25,3 +25,4 @@ pub mod CostTables
 pub mod Costs
 pub mod LastToken
 pub mod Ways
+pub mod Paths
