@@ -29,3 +29,4 @@ pub mod Depths
 pub mod Calm
 pub mod Rises
 pub mod Follows
+pub mod Paths
