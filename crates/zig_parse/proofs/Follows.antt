@@ -4,15 +4,18 @@ use Rattle.std.specs.Prelude.{zero, max, min, if◌then◌else◌, not, ◌&&◌
 use Rattle.std.proofs.lemmas.Bool.{lt-ltb, le-ltb, ltb-false, ltb-true}
 use Rattle.zig_tree.specs.declared.grammar.Rule.{Rule}
 use Rattle.zig_tree.specs.declared.grammar.Part.{Part}
-use Rattle.zig_tree.specs.GrammarSentences.{Pieces, nothing, word, node, followed, is_one_node, height}
+use Rattle.zig_tree.specs.declared.token.TokenKind.{TokenKind}
+use Rattle.zig_tree.specs.GrammarSentences.{Pieces, nothing, word, node, followed, makes_no_node_alone, is_one_node, made, height}
 use Rattle.zig_parse.specs.declared.thread.Frame.{Frame}
 use Rattle.zig_parse.specs.declared.thread.Item.{Item}
 use Rattle.zig_parse.specs.declared.thread.Thread.{Thread}
 use Rattle.zig_parse.specs.Stack.{rest, with_first}
-use Rattle.zig_parse.specs.Threads.{after_read, closed, closed_from, gained, hardened, is_deep, is_never_alone, item, met, met_from, one_more, part_height, passed, received, risen, touched_from, with_gain, with_part}
+use Rattle.zig_parse.specs.Threads.{after_read, closed, closed_from, gained, hardened, is_deep, is_never_alone, item, met, met_from, one_more, opened, part_height, passed, put, received, collapses, risen, touched_from, with_gain, with_part}
 use Rattle.zig_parse.proofs.Shapes.{count}
 use Rattle.zig_parse.proofs.Spelled.{amount}
-use Rattle.zig_parse.proofs.Story.{amount_followed, height_followed}
+use Rattle.zig_parse.proofs.TreeTables.{same_lone}
+use Rattle.zig_parse.proofs.Story.{amount_followed, height_followed, made_one, one_amount}
+use Rattle.zig_parse.proofs.Rises.{rise_made}
 use Rattle.zig_parse.proofs.Depths.{words, words_followed, IsLow, low_joined}
 
 -- ---- nodes that are done
@@ -226,3 +229,125 @@ piece_stands low told t u v at later f g fs had piece lone is_node base depth ri
   subst (λ (n : ℕ). IsLow depth n (height (followed had piece))) (sym (words_followed had piece)) (subst (IsLow depth (words had + words piece)) (sym (height_followed had piece)) j));
   tall = omega (arith, ap (λ (x : Frame). x.height) eg, b.tall, height_followed had piece);
 }
+
+-- ---- a node is opened, and closed
+
+-- whether a rule that makes no node alone, or not, makes one of these pieces
+abbrev pub makes : Bool → Pieces → Bool
+makes lone whole = not (lone && is_one_node whole)
+
+abbrev pub new_frame : Rule → Frame
+new_frame r = record { rule = r; parts = 0; height = 0; solid = not (collapses r) }
+
+level_open : (lone : Bool) (at_depth base : ℕ) → at_depth ≤ base → (if lone then at_depth else one_more at_depth) ≤ base + count (not lone)
+level_open true at_depth base h = omega arith
+level_open false at_depth base h = omega arith
+
+not_lone : (x y z : Bool) → x ≡ y → not x ≡ true → not (y && z) ≡ true
+not_lone true y z e h = absurd (cc)
+not_lone false true z e h = absurd (cc)
+not_lone false false z e h = refl
+
+is_lone : (x y : Bool) → x ≡ y → not x ≡ false → y ≡ true
+is_lone true y e h = sym e
+is_lone false y e h = absurd (cc)
+
+pub open_stands : (low : ℕ → Type 0) (told : Bool) (v : Thread) (at : ℕ) (r : Rule) (fs : List Frame) (base depth : ℕ) (inside : Pieces) (ps : List Part)
+    → v.frames ≡ fs → (told ≡ true → low (at + 1) → v.deep ≡ false) → (told ≡ true → v.depth ≤ base)
+    → Stands low told (put ps (opened r v)) at (new_frame r) fs nothing (makes_no_node_alone r) (makes (makes_no_node_alone r) inside) base depth
+unfolding put opened
+open_stands low told v at r fs base depth inside ps ef shallow level = record {
+  u = put ps (opened r v);
+  closes = closes_none (put ps (opened r v));
+  frames = ap (λ (l : List Frame). new_frame r ∷ l) ef;
+  shallow = shallow;
+  level = λ h. level_open (collapses r) v.depth base (level h);
+  solid = λ h. not_lone (collapses r) (makes_no_node_alone r) (is_one_node inside) (same_lone r) h;
+  soft = λ h. (is_lone (collapses r) (makes_no_node_alone r) (same_lone r) h, inl refl);
+  some = λ h. absurd (omega arith);
+  none = λ h. refl;
+  lies = λ l. inl (refl, refl);
+  tall = omega arith;
+}
+
+level_shut : (solid : Bool) (at_depth base : ℕ) → at_depth ≤ base + count solid → (if solid then at_depth - 1 else at_depth) ≤ base
+level_shut true at_depth base h = omega arith
+level_shut false at_depth base h = omega arith
+
+pub shut_stands : (low : ℕ → Type 0) (told : Bool) (t v : Thread) (at later : ℕ) (r : Rule) (f n : Frame) (fs : List Frame) (had inside : Pieces) (lone is_node lone2 is_node2 : Bool) (base depth deeper : ℕ) → ((n m : ℕ) → n ≤ m → low m → low n)
+    → Begins low told v at f fs had lone is_node base depth → (s : Stands low told t later n (f ∷ fs) inside lone2 is_node2 (base + count f.solid) deeper)
+    → at ≤ later → part_height n ≤ height (made r inside) → (low later → IsLow depth (words (made r inside)) (height (made r inside)))
+    → Stands low told t later (with_part (part_height n) f) fs (followed had (made r inside)) lone is_node base depth
+shut_stands low told t v at later r f n fs had inside lone is_node lone2 is_node2 base depth deeper falls b s within small lies =
+    let e = closed_is s.u n f fs s.frames in
+    piece_stands low told t (closed s.u) v at later f (with_part (part_height n) f) fs had (made r inside) lone is_node base depth (part_height n) falls b
+    (closes_more t s.u n f fs s.closes s.frames) (ap (λ (x : Thread). x.frames) e) refl (λ h l. ap (λ (x : Thread). x.deep) e ∙ s.shallow h l)
+    (λ h. subst (λ (k : ℕ). k ≤ base + count f.solid) (sym (ap (λ (x : Thread). x.depth) e)) (level_shut n.solid s.u.depth (base + count f.solid) (s.level h)))
+    within small (omega (arith, one_amount (made r inside) (made_one r inside))) (λ h. made_one r inside) lies
+
+rise_by : (x b : Bool) (h k : ℕ) → h ≡ k → (x ≡ true → b ≡ false) → (x ≡ false → b ≡ true) → (if x then one_more h else h) ≡ (if b then k else one_more k)
+rise_by true true h k e f g = absurd (let c = f refl in cc)
+rise_by true false h k e f g = ap one_more e
+rise_by false true h k e f g = e
+rise_by false false h k e f g = absurd (let c = g refl in cc)
+
+lone_one : (x y : Bool) (p : Pieces) → x ≡ true → 0 < amount p → (p ≡ nothing) ⊎ (y ≡ true) → (x && y) ≡ true
+lone_one x y p h some (inl e) = absurd (omega (arith, ap amount e))
+lone_one true y p h some (inr e) = e
+lone_one false y p h some (inr e) = absurd (cc)
+
+not_is : (x : Bool) → not x ≡ true → x ≡ false
+not_is true h = absurd (cc)
+not_is false h = refl
+
+-- how high it is counted
+pub shut_rise : (low : ℕ → Type 0) (told : Bool) (t : Thread) (at : ℕ) (r : Rule) (n : Frame) (fs : List Frame) (inside : Pieces) (base depth tall : ℕ)
+    → Stands low told t at n fs inside (makes_no_node_alone r) (makes (makes_no_node_alone r) inside) base depth → (makes_no_node_alone r ≡ true → 0 < amount inside) → n.height ≡ tall
+    → part_height n ≡ rise_made r inside tall
+shut_rise low told t at r n fs inside base depth tall s some e =
+    rise_by n.solid (makes_no_node_alone r && is_one_node inside) n.height tall e (λ h. not_is (makes_no_node_alone r && is_one_node inside) (s.solid h))
+    (λ h. (let l = s.soft h in lone_one (makes_no_node_alone r) (is_one_node inside) inside l.0 (some l.0) l.1))
+
+-- ---- a token is read, or a brace by another thread
+
+read_level : (low : ℕ → Type 0) (at depth : ℕ) → (low (at + 1) → depth ≤ 200) → low (at + 1) → IsLow depth 1 0
+read_level low at depth d l = inr (let h = d l in omega arith)
+
+pub read_stands : (low : ℕ → Type 0) (told : Bool) (t : Thread) (at : ℕ) (f : Frame) (fs : List Frame) (had : Pieces) (lone is_node : Bool) (base depth : ℕ) (k : TokenKind) → ((n m : ℕ) → n ≤ m → low m → low n) → (s : Stands low told t at f fs had lone is_node base depth)
+    → base + count is_node ≤ depth → (low (at + 1) → depth ≤ 200) → is_node ≡ true
+    → Stands low told (after_read s.u) (at + 1) (with_part 0 (hard_frame f)) fs (followed had (word k nothing)) lone is_node base depth
+unfolding after_read
+read_stands low told t at f fs had lone is_node base depth k falls s b d n =
+    let v = touched_from (passed s.u) s.u.frames in
+    let g = touch_begins low told t at f fs had lone is_node base depth falls s b d n in
+    piece_stands low told (with_gain 0 v) (with_gain 0 v) v at (at + 1) (hard_frame f) (with_part 0 (hard_frame f)) fs had (word k nothing) lone is_node base depth 0 falls g
+    (closes_none (with_gain 0 v)) (ap (gained 0) g.frames) refl (λ h l. g.shallow h (falls (at + 1) (at + 1 + 1) (omega arith) l)) g.level (omega arith) (omega arith) (omega arith) (λ h. absurd (cc)) (read_level low at depth d)
+
+pub read_shallow : (low : ℕ → Type 0) (told : Bool) (t : Thread) (at : ℕ) (f : Frame) (fs : List Frame) (had : Pieces) (lone is_node : Bool) (base depth : ℕ) → ((n m : ℕ) → n ≤ m → low m → low n) → (s : Stands low told t at f fs had lone is_node base depth)
+    → base + count is_node ≤ depth → (low (at + 1) → depth ≤ 200) → is_node ≡ true → told ≡ true → low (at + 1) → (after_read s.u).deep ≡ false
+unfolding after_read
+read_shallow low told t at f fs had lone is_node base depth falls s b d n h l = (touch_begins low told t at f fs had lone is_node base depth falls s b d n).shallow h l
+
+level_in : (x y : Bool) (at_depth base depth : ℕ) → (x ≡ true → y ≡ true) → at_depth ≤ base + count x → base + count y ≤ depth → at_depth ≤ depth
+level_in true true at_depth base depth h l b = omega arith
+level_in true false at_depth base depth h l b = absurd (let e = h refl in cc)
+level_in false true at_depth base depth h l b = omega arith
+level_in false false at_depth base depth h l b = omega arith
+
+pub received_shallow : (low : ℕ → Type 0) (told : Bool) (v : Thread) (at later : ℕ) (f : Frame) (fs : List Frame) (had : Pieces) (lone is_node : Bool) (base depth tall own : ℕ) → ((n m : ℕ) → n ≤ m → low m → low n)
+    → Begins low told v at f fs had lone is_node base depth → base + count is_node ≤ depth → at < later → own ≤ tall → (low later → depth + tall ≤ 200) → told ≡ true → low later → (received own v).deep ≡ false
+unfolding received
+received_shallow low told v at later f fs had lone is_node base depth tall own falls g b within small d h l =
+    let inner = d l in
+    let level = level_in f.solid is_node v.depth base depth g.solid (g.level h) b in
+    or_false v.deep (is_deep v.depth own) (g.shallow h (falls (at + 1) later (omega arith) l)) (shallow_is v.depth own (omega arith))
+
+pub received_stands : (low : ℕ → Type 0) (told : Bool) (v : Thread) (at later : ℕ) (f : Frame) (fs : List Frame) (had piece : Pieces) (lone is_node : Bool) (base depth own : ℕ) → ((n m : ℕ) → n ≤ m → low m → low n)
+    → Begins low told v at f fs had lone is_node base depth → base + count is_node ≤ depth → at < later → own ≤ height piece → 0 < amount piece → (f.solid ≡ false → is_one_node piece ≡ true) → (low later → depth + height piece ≤ 200)
+    → Stands low told (received own v) later (with_part own f) fs (followed had piece) lone is_node base depth
+unfolding received
+received_stands low told v at later f fs had piece lone is_node base depth own falls g b within small some one d =
+    piece_stands low told (received own v) (received own v) v at later f (with_part own f) fs had piece lone is_node base depth own falls g
+    (closes_none (received own v)) (ap (gained own) g.frames) refl
+    (λ h l. received_shallow low told v at later f fs had lone is_node base depth (height piece) own falls g b within small d h (falls later (later + 1) (omega arith) l))
+    g.level (omega arith) small some one (λ l. inr (d l))
