@@ -30,3 +30,4 @@ pub mod Calm
 pub mod Rises
 pub mod Follows
 pub mod Paths
+pub mod SurePaths
