@@ -3,7 +3,7 @@ use Rattle.std.proofs.Common.{◌≡◌, ℕ, suc, ◌+◌, ◌-◌, ◌<◌, �
 use Rattle.std.specs.Prelude.{zero, max, if◌then◌else◌, not, nat_lt}
 use Rattle.std.proofs.lemmas.Bool.{and_parts, lt-ltb, le-ltb}
 use Rattle.zig_tree.specs.declared.token.TokenKind.{TokenKind}
-use Rattle.zig_tree.specs.declared.token.TokenKind.TheVariants.{LeftBrace}
+use Rattle.zig_tree.specs.declared.token.TokenKind.TheVariants.{LeftBrace, RightBrace}
 use Rattle.zig_tree.specs.declared.grammar.Rule.{Rule}
 use Rattle.zig_tree.specs.declared.grammar.Rule.TheVariants as rule
 use Rattle.zig_tree.specs.declared.grammar.Group.{Group}
@@ -20,9 +20,10 @@ use Rattle.zig_parse.specs.declared.thread.Thread.{Thread}
 use Rattle.zig_parse.specs.declared.thread.Move.{Move}
 use Rattle.zig_parse.specs.declared.thread.Move.TheVariants as move
 use Rattle.zig_parse.specs.Stack.{rest, with_first}
-use Rattle.zig_parse.specs.Threads.{after_read, closed, gained, hardened, has_braces, is_deep, is_apart, is_braced, is_never_alone, item, met, met_from, met_part, one_more, opened, part_height, passed, put, received, replaced, risen, touched_from, with_gain, with_part}
+use Rattle.zig_parse.specs.Threads.{after_read, closed, fresh, gained, hardened, surround, has_braces, is_deep, is_apart, is_braced, is_never_alone, item, met, met_from, met_part, one_more, opened, part_height, passed, put, received, replaced, risen, touched_from, with_gain, with_part}
 use Rattle.zig_parse.specs.Moves.{apart_from, move_at, move_from, next_move, reading, waits_for}
-use Rattle.zig_parse.specs.Passes.{begun, own_height}
+use Rattle.zig_parse.specs.Passes.{begun, begun_by, enclosed, own_height}
+use Rattle.zig_parse.proofs.Picks.{choices_as, parts_in}
 use Rattle.zig_parse.proofs.Derived.{followed_nothing, followed_twice, open_is_row, row_tested}
 use Rattle.zig_parse.proofs.Shapes.{count, has_piece, is_led, row_fills, row_has_piece, row_led}
 use Rattle.zig_parse.proofs.Tables.{rule_filled}
@@ -422,3 +423,130 @@ rule_path low told calm q a ps behind tokens end p choices t at f fs had after w
     (path_rule told calm u at tokens end height (inner ++ (outer ++ last)) q a choices
     (next_is true tokens u f fs (part.Rule q) behind_items r.stands.frames (first_item low told calm (part.Rule q) ps behind p t at f fs had after whole lone base depth qs later r) ∙ rule_move (is_kind (next_kind tokens) LeftBrace) q free)
     (rule_none q (ps ++ behind) tokens end a choices calm r.starts taken) (as_taken (ps ++ behind) (parts_of_items (rest u.items)) tokens end (open_at tokens (rule_rows q)) a choices parts taken) path))
+
+-- ---- what stands in braces
+
+head_parts : List Alternative → List Part
+head_parts [] = []
+head_parts (a ∷ more) = a.parts
+
+-- a brace is its first token
+braced_front : (r : Rule) (a : Alternative) (tokens : List TokenKind) → is_braced r ≡ true → open_at tokens (rule_rows r) ≡ a ∷ [] → (qs : List Part) × (a.parts ≡ part.Token LeftBrace ∷ qs)
+unfolding is_braced rule_rows head_parts
+braced_front rule.Block a tokens h e = (part.Group group.Statements ∷ part.Token RightBrace ∷ [], ap head_parts (sym e))
+braced_front rule.Initializer a tokens h e = (part.Group group.InitializerBody ∷ [], ap head_parts (sym e))
+braced_front rule.ContainerBody a tokens h e = (part.Group group.Members ∷ part.Token RightBrace ∷ [], ap head_parts (sym e))
+braced_front _ a tokens h e = absurd (cc)
+
+braces_front : (g : Group) (a : Alternative) (tokens : List TokenKind) → has_braces g ≡ true → open_at tokens (group_rows g) ≡ a ∷ [] → (qs : List Part) × (a.parts ≡ part.Token LeftBrace ∷ qs)
+unfolding group_rows head_parts
+braces_front group.ErrorBraces a tokens h e = (part.Group group.ErrorNames ∷ part.Token RightBrace ∷ [], ap head_parts (sym e))
+braces_front group.SwitchBraces a tokens h e = (part.Group group.Prongs ∷ part.Token RightBrace ∷ [], ap head_parts (sym e))
+braces_front _ a tokens h e = absurd (cc)
+
+token_front : (k : TokenKind) (ps behind : List Part) (tokens next end : List TokenKind) (p : Pieces) (forks : List Fork) → Sure (part.Token k ∷ ps) behind tokens next end p forks → (more : List TokenKind) × (tokens ≡ k ∷ more)
+token_front k ps behind tokens next end p forks (sure_token _ _ _ more _ _ later _ s) = (more, refl)
+
+brace_first : (ps qs behind : List Part) (tokens next end : List TokenKind) (p : Pieces) (forks : List Fork) → ps ≡ part.Token LeftBrace ∷ qs → Sure ps behind tokens next end p forks → (more : List TokenKind) × (tokens ≡ LeftBrace ∷ more)
+brace_first ps qs behind tokens next end p forks e s = token_front LeftBrace qs behind tokens next end p forks (subst (λ (l : List Part). Sure l behind tokens next end p forks) e s)
+
+-- the paths of the threads that read what stands in the braces
+abbrev Inner : (low : ℕ → Type 0) (told : Bool) (v : Thread) (at : ℕ) (tokens mid : List TokenKind) (q : Part) (height : ℕ) (inner : List Fork) → Type 0
+Inner low told v at tokens mid q height inner =
+    (depth : ℕ) (heard : Bool) → (heard ≡ true → (told ≡ true) × (depth ≤ v.depth)) → Path true low heard false (begun (look_of tokens) q depth) at tokens mid height inner
+
+brace_at : (low : ℕ → Type 0) (told calm : Bool) (u : Thread) (at later : ℕ) (more mid end : List TokenKind) (height inner_height : ℕ) (inner outer : List Fork) (q : Part) → later ≡ at + (length (LeftBrace ∷ more) - length mid)
+    → next_move (look_of (LeftBrace ∷ more)) true u ≡ move.Read → waits_for u ≡ Some q → (told ≡ true → low (at + 1) → (met_part q u).deep ≡ false) → Inner low told (met_part q u) at (LeftBrace ∷ more) mid q inner_height inner
+    → (told ≡ true → low later → (received (own_height q inner_height) (met_part q u)).deep ≡ false) → Path true low told false (received (own_height q inner_height) (met_part q u)) later mid end height outer
+    → Path true low told calm u at (LeftBrace ∷ more) end height (inner ++ outer)
+brace_at low told calm u at later more mid end height inner_height inner outer q e n w d paths deep path =
+    path_waits told calm u at more mid end height inner_height inner outer q refl n w d paths
+    (subst (λ (i : ℕ). told ≡ true → low i → (received (own_height q inner_height) (met_part q u)).deep ≡ false) e deep)
+    (subst (λ (i : ℕ). Path true low told false (received (own_height q inner_height) (met_part q u)) i mid end height outer) e path)
+
+path_brace : (low : ℕ → Type 0) (told calm : Bool) (u : Thread) (at later : ℕ) (tokens more mid end : List TokenKind) (height inner_height : ℕ) (inner outer : List Fork) (q : Part) → tokens ≡ LeftBrace ∷ more → later ≡ at + (length tokens - length mid)
+    → next_move (look_of tokens) true u ≡ move.Read → waits_for u ≡ Some q → (told ≡ true → low (at + 1) → (met_part q u).deep ≡ false) → Inner low told (met_part q u) at tokens mid q inner_height inner
+    → (told ≡ true → low later → (received (own_height q inner_height) (met_part q u)).deep ≡ false) → Path true low told false (received (own_height q inner_height) (met_part q u)) later mid end height outer
+    → Path true low told calm u at tokens end height (inner ++ outer)
+path_brace low told calm u at later tokens more mid end height inner_height inner outer q e el n w d paths deep path =
+    subst (λ (ts : List TokenKind). later ≡ at + (length ts - length mid) → next_move (look_of ts) true u ≡ move.Read → Inner low told (met_part q u) at ts mid q inner_height inner → Path true low told calm u at ts end height (inner ++ outer)) (sym e)
+    (λ el2 n2 paths2. brace_at low told calm u at later more mid end height inner_height inner outer q el2 n2 w d paths2 deep path) el n paths
+
+-- the thread that reads a rule in braces
+begun_rule : (tokens : List TokenKind) (r : Rule) (a : Alternative) (depth : ℕ) → open_at tokens (rule_rows r) ≡ a ∷ [] → begun (look_of tokens) (part.Rule r) depth ≡ put a.parts (opened r (fresh (part.Rule r) depth))
+unfolding begun
+begun_rule tokens r a depth e = ap (λ (l : List (List Part)). begun_by l (opened r (fresh (part.Rule r) depth))) (choices_as tokens (rule_rows r) ∙ ap parts_in e)
+
+begun_group : (tokens : List TokenKind) (g : Group) (a : Alternative) (depth : ℕ) → open_at tokens (group_rows g) ≡ a ∷ [] → begun (look_of tokens) (part.Group g) depth ≡ put a.parts (enclosed (part.Group g) (fresh (part.Group g) depth))
+unfolding begun
+begun_group tokens g a depth e = ap (λ (l : List (List Part)). begun_by l (enclosed (part.Group g) (fresh (part.Group g) depth))) (choices_as tokens (group_rows g) ∙ ap parts_in e)
+
+part_none : (f : Frame) → part_height (with_part 0 f) ≡ part_height f
+part_none f = ap (λ (n : ℕ). if f.solid then one_more n else n) (let e : max f.height 0 ≡ f.height = omega arith in e)
+
+risen_one : (f : Frame) → risen 0 (f ∷ []) ≡ part_height f
+unfolding risen
+risen_one f = part_none f
+
+-- at the end of the braces
+ends_path : (low : ℕ → Type 0) (heard : Bool) (t : Thread) (at : ℕ) (mid : List TokenKind) (f : Frame) (had : Pieces) (lone is_node : Bool) (base depth height : ℕ) → Stands low heard t at f [] had lone is_node base depth → t.items ≡ [] → part_height f ≡ height
+    → Path true low heard false t at mid mid height []
+ends_path low heard t at mid f had lone is_node base depth height s e h =
+    subst (λ (n : ℕ). Path true low heard false t at mid mid n []) (closes_risen t s.u s.closes ∙ ap (risen 0) s.frames ∙ risen_one f ∙ h) (path_ends heard false t at mid e)
+
+rule_inside_ready : (low : ℕ → Type 0) (heard : Bool) (r : Rule) (a : Alternative) (tokens : List TokenKind) (inside : Pieces) (at base depth within : ℕ) → Among a (open_at tokens (rule_rows r)) → (heard ≡ true → depth ≤ base)
+    → Lies low at (within + count (makes (makes_no_node_alone r) inside)) inside → base ≤ within
+    → Ready low heard false a.parts [] inside (put a.parts (opened r (fresh (part.Rule r) depth))) at (new_frame r) [] nothing nothing inside (makes_no_node_alone r) base (within + count (makes (makes_no_node_alone r) inside)) [] []
+unfolding fresh opened put
+rule_inside_ready low heard r a tokens inside at base depth within among h lies b = record {
+  stands = open_stands low heard (fresh (part.Rule r) depth) at r [] base (within + count (makes (makes_no_node_alone r) inside)) inside a.parts refl (λ e l. refl) h;
+  whole_is = sym (followed_nothing inside);
+  items = refl;
+  come = refl;
+  starts = λ e. absurd (cc);
+  led = inner_lead r a tokens among;
+  more = λ e. absurd (cc);
+  free = λ e. lone_row_free r a tokens e among;
+  lies = lies;
+  within = omega arith;
+}
+
+group_inside_stands : (low : ℕ → Type 0) (heard : Bool) (g : Group) (ps : List Part) (at base depth within : ℕ) → (heard ≡ true → depth ≤ base + 1) → Stands low heard (put ps (enclosed (part.Group g) (fresh (part.Group g) depth))) at surround [] nothing false true base within
+unfolding fresh put
+group_inside_stands low heard g ps at base depth within h = record {
+  u = put ps (enclosed (part.Group g) (fresh (part.Group g) depth));
+  closes = closes_none (put ps (enclosed (part.Group g) (fresh (part.Group g) depth)));
+  frames = refl;
+  shallow = λ e l. refl;
+  level = h;
+  solid = λ e. refl;
+  soft = λ e. absurd (cc);
+  some = λ e. absurd (omega arith);
+  none = λ e. refl;
+  lies = λ l. inl (refl, refl);
+  tall = omega arith;
+}
+
+group_lead : (g : Group) (a : Alternative) (tokens : List TokenKind) → has_braces g ≡ true → Among a (open_at tokens (group_rows g)) → is_led (a.parts ++ []) ≡ true
+group_lead g a tokens h m = group_keeps_led g a [] (open_is_row tokens a (group_rows g) m) (by g h)
+  where
+    by : (x : Group) → has_braces x ≡ true → is_led (part.Group x ∷ []) ≡ true
+    by group.ErrorBraces e = refl
+    by group.SwitchBraces e = refl
+    by _ e = absurd (cc)
+
+group_inside_ready : (low : ℕ → Type 0) (heard : Bool) (g : Group) (a : Alternative) (tokens : List TokenKind) (inside : Pieces) (at base depth within : ℕ) → has_braces g ≡ true → Among a (open_at tokens (group_rows g)) → (heard ≡ true → depth ≤ base + 1)
+    → Lies low at within inside → base + 1 ≤ within → Ready low heard false a.parts [] inside (put a.parts (enclosed (part.Group g) (fresh (part.Group g) depth))) at surround [] nothing nothing inside false base within [] []
+unfolding fresh put
+group_inside_ready low heard g a tokens inside at base depth within braces among h lies b = record {
+  stands = group_inside_stands low heard g a.parts at base depth within h;
+  whole_is = sym (followed_nothing inside);
+  items = refl;
+  come = refl;
+  starts = λ e. absurd (cc);
+  led = group_lead g a tokens braces among;
+  more = λ e. absurd (cc);
+  free = λ e. absurd (cc);
+  lies = lies;
+  within = b;
+}
