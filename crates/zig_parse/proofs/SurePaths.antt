@@ -1,7 +1,7 @@
 -- Where parts derive tokens in a way that is sure, a thread has a path.
 use Rattle.std.proofs.Common.{◌≡◌, ℕ, suc, ◌+◌, ◌-◌, ◌<◌, ◌≤◌, Bool, true, false, ◌&&◌, ◌||◌, ◌⊎◌, inl, inr, List, [], ◌∷◌, ◌++◌, map, length, Some, None, refl, sym, ◌∙◌, ap, subst, arith, append_assoc, append-nil}
 use Rattle.std.specs.Prelude.{zero, max, if◌then◌else◌, not, nat_lt}
-use Rattle.std.proofs.lemmas.Bool.{and_parts, lt-ltb, le-ltb}
+use Rattle.std.proofs.lemmas.Bool.{and_parts, lt-ltb, le-ltb, eq-eqb}
 use Rattle.zig_tree.specs.declared.token.TokenKind.{TokenKind}
 use Rattle.zig_tree.specs.declared.token.TokenKind.TheVariants.{LeftBrace, RightBrace}
 use Rattle.zig_tree.specs.declared.grammar.Rule.{Rule}
@@ -11,7 +11,7 @@ use Rattle.zig_tree.specs.declared.grammar.Group.TheVariants as group
 use Rattle.zig_tree.specs.declared.grammar.TokenClass.{TokenClass}
 use Rattle.zig_tree.specs.declared.grammar.Part.{Part}
 use Rattle.zig_tree.specs.declared.grammar.Part.TheVariants as part
-use Rattle.zig_tree.specs.Kinds.{has_kind, is_kind}
+use Rattle.zig_tree.specs.Kinds.{has_kind, is_kind, number_of}
 use Rattle.zig_tree.specs.Grammar.{Alternative, group_rows, rule_rows}
 use Rattle.zig_tree.specs.GrammarSentences.{Pieces, nothing, word, node, followed, makes_no_node_alone, is_one_node, made, open_at, Among, Derives, height, token_depths, AreShallow, next_kind}
 use Rattle.zig_parse.specs.declared.thread.Frame.{Frame}
@@ -550,3 +550,104 @@ group_inside_ready low heard g a tokens inside at base depth within braces among
   lies = lies;
   within = b;
 }
+
+-- ---- the path
+
+kind_reads : (k : TokenKind) → reading (is_kind k k) ≡ move.Read
+kind_reads k = ap reading (eq-eqb (number_of k) (number_of k) refl)
+
+piece_goes : (low : ℕ → Type 0) (told : Bool) (fs : List Frame) (lone is_node : Bool) (base depth : ℕ) (later : List Item) (next end : List TokenKind) (height : ℕ) (outer : List Fork) (at n : ℕ) (had piece p : Pieces) (tall x y z : ℕ) → words piece ≡ n → z ≡ max tall x
+    → Goes low told fs lone is_node base depth later next end height outer (at + words (followed piece p)) (followed had (followed piece p)) (max tall (max x y))
+    → Goes low told fs lone is_node base depth later next end height outer (at + n + words p) (followed (followed had piece) p) (max z y)
+piece_goes low told fs lone is_node base depth later next end height outer at n had piece p tall x y z e h goes =
+    goes_as low told fs lone is_node base depth later next end height outer (at + words (followed piece p)) (at + n + words p) (followed had (followed piece p)) (followed (followed had piece) p) (max tall (max x y)) (max z y)
+    (omega (arith, words_followed piece p)) (sym (followed_twice had piece p)) (omega arith) goes
+
+low_some : (depth n tall : ℕ) → 0 < n → IsLow depth n tall → depth + tall ≤ 200
+low_some depth n tall h (inl none) = absurd (omega (arith, none.0))
+low_some depth n tall h (inr l) = l
+
+received_items : (own : ℕ) (r : Rule) (u : Thread) → (received own (met r u)).items ≡ rest u.items
+unfolding received met
+received_items own r u = ap rest (met_items r u u.frames)
+
+received_rest : (own : ℕ) (u : Thread) → (received own u).items ≡ rest u.items
+unfolding received
+received_rest own u = refl
+
+rule_brace : (kind : TokenKind) (r : Rule) → is_braced r ≡ true → kind ≡ LeftBrace → (if true && is_braced r then reading (is_kind kind LeftBrace) else move.Rule r) ≡ move.Read
+rule_brace kind r h e = rw h (ap (λ (k : TokenKind). reading (is_kind k LeftBrace)) e ∙ kind_reads LeftBrace)
+
+group_brace : (kind : TokenKind) (g : Group) → has_braces g ≡ true → kind ≡ LeftBrace → (if true && has_braces g then reading (is_kind kind LeftBrace) else move.Group g) ≡ move.Read
+group_brace kind g h e = rw h (ap (λ (k : TokenKind). reading (is_kind k LeftBrace)) e ∙ kind_reads LeftBrace)
+
+-- the thread that waits is met, and gains what was read
+rule_waits : (low : ℕ → Type 0) (falls : (n m : ℕ) → n ≤ m → low m → low n) (told calm : Bool) (q : Rule) (a : Alternative) (ps behind : List Part) (tokens more mid next end : List TokenKind) (inside p : Pieces) (own : ℕ) (inner rest_forks : List Fork)
+    (t : Thread) (at : ℕ) (f : Frame) (fs : List Frame) (had after whole : Pieces) (lone : Bool) (base depth : ℕ) (qs : List Part) (later : List Item) (height_end : ℕ)
+    → is_braced q ≡ true → Among a (open_at tokens (rule_rows q)) → Derives a.parts tokens mid inside → Derives ps mid next p → tokens ≡ LeftBrace ∷ more → own ≤ height (made q inside)
+    → (r : Ready low told calm (part.Rule q ∷ ps) behind (followed (made q inside) p) t at f fs had after whole lone base depth qs later)
+    → (Begins low told (met q r.stands.u) at (met_frame q f) fs had lone (makes lone whole) base depth → Inner low told (met q r.stands.u) at tokens mid (part.Rule q) own inner)
+    → ((t2 : Thread) → Ready low told false ps behind p t2 (at + words inside) (with_part own (met_frame q f)) fs (followed had (made q inside)) after whole lone base depth qs later → Path true low told false t2 (at + words inside) mid end height_end rest_forks)
+    → Path true low told calm t at tokens end height_end (inner ++ rest_forks)
+rule_waits low falls told calm q a ps behind tokens more mid next end inside p own inner rest_forks t at f fs had after whole lone base depth qs later height_end braced among d d2 front small r paths on =
+    let u = r.stands.u in
+    let some = some_words q a tokens mid inside among d in
+    let count_read = words_read a.parts tokens mid inside d in
+    let b = rule_begins low falls told calm q ps behind mid next inside p t u at f fs had after whole lone base depth qs later some d2 r refl refl refl in
+    let shallow = λ (l : low (at + words inside)). low_some depth (words (made q inside)) (height (made q inside)) (omega (arith, words_made q inside)) (made_lies low at depth q a tokens mid inside p some d r.lies l) in
+    let first = first_item low told calm (part.Rule q) ps behind (followed (made q inside) p) t at f fs had after whole lone base depth qs later r in
+    let is = map (item (suc (length fs))) ps ++ later in
+    let stands = received_stands low told (met q u) at (at + words inside) (met_frame q f) fs had (made q inside) lone (makes lone whole) base depth own falls b r.within (omega arith) small (omega (arith, one_amount (made q inside) (made_one q inside))) (λ e. made_one q inside) shallow in
+    from_closed low told calm calm (part.Rule q) ps behind (followed (made q inside) p) t at tokens end f fs had after whole lone base depth qs later height_end (inner ++ rest_forks) r
+    (path_brace low told calm u at (at + words inside) tokens more mid end height_end own inner rest_forks (part.Rule q) front (omega (arith, count_read))
+    (next_is true tokens u f fs (part.Rule q) is r.stands.frames first ∙ rule_brace (next_kind tokens) q braced (ap next_kind front))
+    (waits_some u (item (suc (length fs)) (part.Rule q)) is first braced) b.shallow (paths b)
+    (received_shallow low told (met q u) at (at + words inside) (met_frame q f) fs had lone (makes lone whole) base depth (height (made q inside)) own falls b r.within (omega arith) small shallow)
+    (on (received own (met q u)) (after_rule low told calm q ps behind inside p t (received own (met q u)) at f (with_part own (met_frame q f)) fs had after whole lone base depth qs later r stands (received_items own q u ∙ rest_is low told calm (part.Rule q) ps behind (followed (made q inside) p) t at f fs had after whole lone base depth qs later r))))
+
+solid_begins : (low : ℕ → Type 0) (told : Bool) (t : Thread) (at : ℕ) (f : Frame) (fs : List Frame) (had : Pieces) (lone is_node : Bool) (base depth : ℕ) (s : Stands low told t at f fs had lone is_node base depth) → f.solid ≡ true → Begins low told s.u at f fs had lone is_node base depth
+solid_begins low told t at f fs had lone is_node base depth s h = record {
+  frames = s.frames;
+  shallow = s.shallow;
+  level = s.level;
+  solid = s.solid;
+  soft = λ e. absurd (cc);
+  lies = s.lies;
+  tall = s.tall;
+}
+
+solid_by : (x lone : Bool) → (x ≡ false → lone ≡ true) → lone ≡ false → x ≡ true
+solid_by true lone h e = refl
+solid_by false lone h e = absurd (let c = h refl in cc)
+
+not_free_lone : (lone : Bool) (g : Group) (ps : List Part) → has_braces g ≡ true → (lone ≡ true → (is_free_group g && is_free ps) ≡ true) → lone ≡ false
+not_free_lone true g ps h free = absurd (let c = (and_parts (is_free_group g) (is_free ps) (free refl)).0 in let d = braces_not_free g h in cc)
+not_free_lone false g ps h free = refl
+
+group_level : (x : Bool) (base depth n : ℕ) → x ≡ true → base + count x ≤ depth → n ≤ base + count x → (n ≤ base + 1) × (base + 1 ≤ depth)
+group_level true base depth n e h k = (omega arith, omega arith)
+group_level false base depth n e h k = absurd (cc)
+
+-- the same for the braces of a group, which make no node
+group_waits : (low : ℕ → Type 0) (falls : (n m : ℕ) → n ≤ m → low m → low n) (told calm : Bool) (g : Group) (a : Alternative) (ps behind : List Part) (tokens more mid next end : List TokenKind) (inside p : Pieces) (tall : ℕ) (inner rest_forks : List Fork)
+    (t : Thread) (at : ℕ) (f : Frame) (fs : List Frame) (had after whole : Pieces) (lone : Bool) (base depth : ℕ) (qs : List Part) (later : List Item) (height_end : ℕ)
+    → has_braces g ≡ true → Among a (open_at tokens (group_rows g)) → Derives a.parts tokens mid inside → 0 < words inside → 0 < amount inside → tokens ≡ LeftBrace ∷ more → tall - 1 ≤ height inside
+    → (r : Ready low told calm (part.Group g ∷ ps) behind (followed inside p) t at f fs had after whole lone base depth qs later)
+    → (Begins low told r.stands.u at f fs had lone (makes lone whole) base depth → f.solid ≡ true → Inner low told r.stands.u at tokens mid (part.Group g) tall inner)
+    → ((t2 : Thread) → Ready low told false ps behind p t2 (at + words inside) (with_part (tall - 1) f) fs (followed had inside) after whole lone base depth qs later → Path true low told false t2 (at + words inside) mid end height_end rest_forks)
+    → Path true low told calm t at tokens end height_end (inner ++ rest_forks)
+group_waits low falls told calm g a ps behind tokens more mid next end inside p tall inner rest_forks t at f fs had after whole lone base depth qs later height_end braced among d some filled front small r paths on =
+    let u = r.stands.u in
+    let count_read = words_read a.parts tokens mid inside d in
+    let hard : f.solid ≡ true = solid_by f.solid lone (λ e. (r.stands.soft e).0) (not_free_lone lone g ps braced r.free) in
+    let b = solid_begins low told t at f fs had lone (makes lone whole) base depth r.stands hard in
+    let shallow = λ (l : low (at + words inside)). low_some depth (words inside) (height inside) some (read_low low at depth inside (derived_full a.parts tokens mid inside d) (lies_left low at depth inside p r.lies) l) in
+    let first = first_item low told calm (part.Group g) ps behind (followed inside p) t at f fs had after whole lone base depth qs later r in
+    let is = map (item (suc (length fs))) ps ++ later in
+    let stands = received_stands low told u at (at + words inside) f fs had inside lone (makes lone whole) base depth (tall - 1) falls b r.within (omega arith) small filled (λ e. absurd (cc)) shallow in
+    from_closed low told calm calm (part.Group g) ps behind (followed inside p) t at tokens end f fs had after whole lone base depth qs later height_end (inner ++ rest_forks) r
+    (path_brace low told calm u at (at + words inside) tokens more mid end height_end tall inner rest_forks (part.Group g) front (omega (arith, count_read))
+    (next_is true tokens u f fs (part.Group g) is r.stands.frames first ∙ group_brace (next_kind tokens) g braced (ap next_kind front))
+    (waits_some u (item (suc (length fs)) (part.Group g)) is first braced) b.shallow (paths b hard)
+    (received_shallow low told u at (at + words inside) f fs had lone (makes lone whole) base depth (height inside) (tall - 1) falls b r.within (omega arith) small shallow)
+    (on (received (tall - 1) u) (after_group low told calm g ps behind inside p t (received (tall - 1) u) at f (with_part (tall - 1) f) fs had after whole lone base depth qs later r stands (received_rest (tall - 1) u ∙ rest_is low told calm (part.Group g) ps behind (followed inside p) t at f fs had after whole lone base depth qs later r))))
