@@ -12,7 +12,7 @@ use Rattle.zig_parse.proofs.Story.{height_followed}
 use Rattle.zig_parse.proofs.Calm.{taken_among}
 use Rattle.zig_parse.proofs.Ways.{Fork, Sure, sure_none, sure_token, sure_one_of, sure_group, sure_rule, sure_group_apart, sure_rule_apart}
 
-among_sole : (rows : List Alternative) (a : Alternative) → rows ≡ a ∷ [] → Among a rows
+pub among_sole : (rows : List Alternative) (a : Alternative) → rows ≡ a ∷ [] → Among a rows
 among_sole rows a e = subst (Among a) (sym e) (inl refl)
 
 pub sure_derives : (ps behind : List Part) (tokens next end : List TokenKind) (p : Pieces) (forks : List Fork) → Sure ps behind tokens next end p forks → Derives ps tokens next p

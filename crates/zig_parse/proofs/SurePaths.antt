@@ -25,7 +25,7 @@ use Rattle.zig_parse.specs.Moves.{apart_from, move_at, move_from, next_move, rea
 use Rattle.zig_parse.specs.Passes.{begun, begun_by, enclosed, own_height}
 use Rattle.zig_parse.proofs.Picks.{choices_as, parts_in}
 use Rattle.zig_parse.proofs.Derived.{followed_nothing, followed_twice, open_is_row, row_tested}
-use Rattle.zig_parse.proofs.Shapes.{count, has_piece, is_led, row_fills, row_has_piece, row_led}
+use Rattle.zig_parse.proofs.Shapes.{count, fills, has_piece, is_led, row_fills, row_has_piece, row_led}
 use Rattle.zig_parse.proofs.Tables.{rule_filled}
 use Rattle.zig_parse.proofs.TreeTables.{lone_filled, rule_led}
 use Rattle.zig_parse.proofs.Balance.{reads_some}
@@ -35,7 +35,7 @@ use Rattle.zig_parse.proofs.Ways.{Fork, Taken, noted, Sure, sure_none, sure_toke
 use Rattle.zig_parse.proofs.Paths.{look_of, parts_of_items, is_cons, Path, path_ends, path_closes, path_rule, path_group, path_reads, path_waits}
 use Rattle.zig_parse.proofs.Depths.{words, words_followed, words_made, words_read, IsFull, derived_full, full_made, Lies, lies_left, lies_right, lies_made, IsLow, next_low, read_low}
 use Rattle.zig_parse.proofs.Calm.{is_calm_rule, starts_calm, rule_forks, group_forks, fork_starts, calm_starts, is_free, is_free_group, braces_not_free, lone_row_free, group_row_free, taken_among}
-use Rattle.zig_parse.proofs.Rises.{sure_derives, rise_made, rise_made_low, rise_of, rise_low}
+use Rattle.zig_parse.proofs.Rises.{among_sole, sure_derives, rise_made, rise_made_low, rise_of, rise_low}
 use Rattle.zig_parse.proofs.Follows.{Closes, closes_none, closes_one, closes_items, closes_risen, closes_fewer, Stands, Begins, met_begins, met_frame, met_height, hard_frame, makes, new_frame, open_stands, shut_stands, shut_rise, read_stands, read_shallow, received_shallow, received_stands}
 
 -- ---- what a thread does next
@@ -651,3 +651,110 @@ group_waits low falls told calm g a ps behind tokens more mid next end inside p 
     (waits_some u (item (suc (length fs)) (part.Group g)) is first braced) b.shallow (paths b hard)
     (received_shallow low told u at (at + words inside) f fs had lone (makes lone whole) base depth (height inside) (tall - 1) falls b r.within (omega arith) small shallow)
     (on (received (tall - 1) u) (after_group low told calm g ps behind inside p t (received (tall - 1) u) at f (with_part (tall - 1) f) fs had after whole lone base depth qs later r stands (received_rest (tall - 1) u ∙ rest_is low told calm (part.Group g) ps behind (followed inside p) t at f fs had after whole lone base depth qs later r))))
+
+no_more : (n : ℕ) → max 0 n ≡ n
+no_more n = omega arith
+
+solid_high : (f : Frame) (n : ℕ) → f.solid ≡ true → f.height ≡ n → part_height f ≡ one_more n
+solid_high f n h e = rw (h, e) refl
+
+braces_filled : (a : Alternative) (qs : List Part) → a.parts ≡ part.Token LeftBrace ∷ qs → (has_piece a.parts ≡ true) × (fills a.parts ≡ true)
+braces_filled a qs e = (ap has_piece e, ap fills e)
+
+words_some : (ps : List Part) (tokens mid : List TokenKind) (inside : Pieces) → Derives ps tokens mid inside → fills ps ≡ true → 0 < words inside
+words_some ps tokens mid inside d h = let some = reads_some ps tokens mid inside d h in omega (arith, words_read ps tokens mid inside d)
+
+-- Whatever way is sure, a thread that stands before its parts goes on by a path, up to where they end.
+sure_path_by : (low : ℕ → Type 0) (falls : (n m : ℕ) → n ≤ m → low m → low n) (ps behind : List Part) (tokens next end : List TokenKind) (p : Pieces) (forks : List Fork) (s : Sure ps behind tokens next end p forks)
+    (told calm : Bool) (t : Thread) (at : ℕ) (f : Frame) (fs : List Frame) (had after whole : Pieces) (lone : Bool) (base depth : ℕ) (qs : List Part) (later : List Item) (height_end : ℕ) (last : List Fork)
+    → Ready low told calm ps behind p t at f fs had after whole lone base depth qs later
+    → Goes low told fs lone (makes lone whole) base depth later next end height_end last (at + words p) (followed had p) (max f.height (rise_of ps behind tokens next end p forks s))
+    → Path true low told calm t at tokens end height_end (forks ++ last)
+sure_path_by low falls ps behind tokens next end p forks (sure_none _ _ _) told calm t at f fs had after whole lone base depth qs later height_end last r goes =
+    none_path low behind next end told calm t at f fs had after whole lone base depth qs later height_end last r goes
+sure_path_by low falls ps behind tokens next end p forks (sure_token k more _ after_k _ _ later_p _ s) told calm t at f fs had after whole lone base depth qs later height_end last r goes =
+    token_path low falls (part.Token k) more behind k after_k end later_p told calm t at f fs had after whole lone base depth qs later height_end (forks ++ last) refl (kind_reads k) r
+    (sure_path_by low falls more behind after_k next end later_p forks s told false (after_read r.stands.u) (at + 1) (with_part 0 (hard_frame f)) fs (followed had (word k nothing)) after whole lone base depth qs later height_end last
+    (token_ready low falls (part.Token k) more behind k later_p told calm t at f fs had after whole lone base depth qs later (λ h. h) r)
+    (piece_goes low told fs lone (makes lone whole) base depth later next end height_end last at 1 had (word k nothing) later_p f.height 0 (rise_of more behind after_k next end later_p forks s) (max f.height 0) (omega arith) refl
+    (goes_as low told fs lone (makes lone whole) base depth later next end height_end last (at + words (word k later_p)) (at + words (word k later_p)) (followed had (word k later_p)) (followed had (word k later_p))
+    (max f.height (rise_of more behind after_k next end later_p forks s)) (max f.height (max 0 (rise_of more behind after_k next end later_p forks s))) refl refl (omega arith) goes)))
+sure_path_by low falls ps behind tokens next end p forks (sure_one_of c k more _ after_k _ _ later_p _ has s) told calm t at f fs had after whole lone base depth qs later height_end last r goes =
+    token_path low falls (part.OneOf c) more behind k after_k end later_p told calm t at f fs had after whole lone base depth qs later height_end (forks ++ last) refl (ap reading has) r
+    (sure_path_by low falls more behind after_k next end later_p forks s told false (after_read r.stands.u) (at + 1) (with_part 0 (hard_frame f)) fs (followed had (word k nothing)) after whole lone base depth qs later height_end last
+    (token_ready low falls (part.OneOf c) more behind k later_p told calm t at f fs had after whole lone base depth qs later (λ h. h) r)
+    (piece_goes low told fs lone (makes lone whole) base depth later next end height_end last at 1 had (word k nothing) later_p f.height 0 (rise_of more behind after_k next end later_p forks s) (max f.height 0) (omega arith) refl
+    (goes_as low told fs lone (makes lone whole) base depth later next end height_end last (at + words (word k later_p)) (at + words (word k later_p)) (followed had (word k later_p)) (followed had (word k later_p))
+    (max f.height (rise_of more behind after_k next end later_p forks s)) (max f.height (max 0 (rise_of more behind after_k next end later_p forks s))) refl refl (omega arith) goes)))
+sure_path_by low falls ps behind tokens next end p forks (sure_group g a more _ _ mid _ _ inside later_p choices inner outer free taken s s2) told calm t at f fs had after whole lone base depth qs later height_end last r goes =
+    let d2 = sure_derives more behind mid next end later_p outer s2 in
+    group_path low told calm g a more behind tokens end (followed inside later_p) choices t at f fs had after whole lone base depth qs later height_end inner outer last free taken r
+    (sure_path_by low falls a.parts (more ++ behind) tokens mid end inside inner s told (calm || is_cons choices) (replaced None a.parts r.stands.u) at f fs had (followed later_p after) whole lone base depth (more ++ qs) (map (item (suc (length fs))) more ++ later) height_end (outer ++ last)
+    (group_ready low told calm g a more behind tokens mid next end inside later_p choices t at f fs had after whole lone base depth qs later taken d2 r)
+    (λ t2 f2 stands items tall. sure_path_by low falls more behind mid next end later_p outer s2 told false t2 (at + words inside) f2 fs (followed had inside) after whole lone base depth qs later height_end last
+    (after_group low told calm g more behind inside later_p t t2 at f f2 fs had after whole lone base depth qs later r stands items)
+    (piece_goes low told fs lone (makes lone whole) base depth later next end height_end last at (words inside) had inside later_p f.height (rise_of a.parts (more ++ behind) tokens mid end inside inner s) (rise_of more behind mid next end later_p outer s2) f2.height refl tall goes)))
+sure_path_by low falls ps behind tokens next end p forks (sure_rule q a more _ _ mid _ _ inside later_p choices inner outer free taken s s2) told calm t at f fs had after whole lone base depth qs later height_end last r goes =
+    let d = sure_derives a.parts (more ++ behind) tokens mid end inside inner s in
+    let d2 = sure_derives more behind mid next end later_p outer s2 in
+    let among = taken_among (more ++ behind) tokens end (open_at tokens (rule_rows q)) a choices taken in
+    let some = some_words q a tokens mid inside among d in
+    let rise = rise_of a.parts (more ++ behind) tokens mid end inside inner s in
+    let b = rule_begins low falls told calm q more behind mid next inside later_p t (passed r.stands.u) at f fs had after whole lone base depth qs later some d2 r refl refl refl in
+    let deeper = depth + count (makes (makes_no_node_alone q) inside) in
+    rule_path low told calm q a more behind tokens end (followed (made q inside) later_p) choices t at f fs had after whole lone base depth qs later height_end inner outer last free taken r
+    (sure_path_by low falls a.parts (more ++ behind) tokens mid end inside inner s told (calm || is_cons choices) (replaced (Some q) a.parts r.stands.u) at (new_frame q) (met_frame q f ∷ fs) nothing nothing inside (makes_no_node_alone q) (base + count (met_frame q f).solid) deeper []
+    (map (item (suc (length fs))) more ++ later) height_end (outer ++ last)
+    (rule_ready low told calm q a more behind tokens end inside later_p choices t at f fs had after whole lone base depth qs later taken r b)
+    (λ t2 n stands items tall.
+    (let high : part_height n ≡ rise_made q inside rise = shut_rise low told t2 (at + words inside) q n (met_frame q f ∷ fs) inside (base + count (met_frame q f).solid) deeper rise stands (lone_some q a tokens mid inside among d) (tall ∙ no_more rise) in
+    let shut = shut_stands low told t2 (met q (passed r.stands.u)) at (at + words inside) q (met_frame q f) n fs had inside lone (makes lone whole) (makes_no_node_alone q) (makes (makes_no_node_alone q) inside) base depth deeper falls b stands (omega arith)
+    (omega (arith, high, rise_made_low q inside rise (rise_low a.parts (more ++ behind) tokens mid end inside inner s))) (made_lies low at depth q a tokens mid inside later_p some d r.lies) in
+    sure_path_by low falls more behind mid next end later_p outer s2 told false t2 (at + words inside) (with_part (part_height n) (met_frame q f)) fs (followed had (made q inside)) after whole lone base depth qs later height_end last
+    (after_rule low told calm q more behind inside later_p t t2 at f (with_part (part_height n) (met_frame q f)) fs had after whole lone base depth qs later r shut items)
+    (piece_goes low told fs lone (makes lone whole) base depth later next end height_end last at (words inside) had (made q inside) later_p f.height (rise_made q inside rise) (rise_of more behind mid next end later_p outer s2) (max (met_frame q f).height (part_height n)) (words_made q inside)
+    (omega (arith, met_height q f, high)) goes))))
+sure_path_by low falls ps behind tokens next end p forks (sure_group_apart g a more _ _ mid _ _ inside later_p inner outer braced e s s2) told calm t at f fs had after whole lone base depth qs later height_end last r goes =
+    let d = sure_derives a.parts [] tokens mid mid inside inner s in
+    let rise = rise_of a.parts [] tokens mid mid inside inner s in
+    let among = among_sole (open_at tokens (group_rows g)) a e in
+    let front = braces_front g a tokens braced e in
+    let filled = braces_filled a front.0 front.1 in
+    let brace = brace_first a.parts front.0 [] tokens mid mid inside inner front.1 s in
+    subst (Path true low told calm t at tokens end height_end) (sym (append_assoc inner outer last))
+    (group_waits low falls told calm g a more behind tokens brace.0 mid next end inside later_p (one_more rise) inner (outer ++ last) t at f fs had after whole lone base depth qs later height_end braced among d
+    (words_some a.parts tokens mid inside d filled.1) (piece_amount a.parts tokens mid inside d filled.0) brace.1 (omega (arith, rise_low a.parts [] tokens mid mid inside inner s)) r
+    (λ b hard deep heard h.
+    (let v = put a.parts (enclosed (part.Group g) (fresh (part.Group g) deep)) in
+    subst (λ (x : Thread). Path true low heard false x at tokens mid (one_more rise) inner) (sym (begun_group tokens g a deep e))
+    (subst (Path true low heard false v at tokens mid (one_more rise)) (append-nil inner)
+    (sure_path_by low falls a.parts [] tokens mid mid inside inner s heard false v at surround [] nothing nothing inside false base depth [] [] (one_more rise) []
+    (group_inside_ready low heard g a tokens inside at base deep depth braced among (λ i. (let x = h i in let y = b.level x.0 in omega (arith, x.1, y, ap count hard))) (lies_left low at depth inside later_p r.lies)
+    (omega (arith, ap count hard, rule_within f.solid (makes lone whole) base depth 0 b.solid r.within)))
+    (λ t2 g2 stands items tall. ends_path low heard t2 (at + words inside) mid g2 (followed nothing inside) false (makes false inside) base depth (one_more rise) stands items (solid_high g2 rise (solid_by g2.solid false (λ i. (stands.soft i).0) refl) (tall ∙ no_more rise)))))))
+    (λ t2 ready. sure_path_by low falls more behind mid next end later_p outer s2 told false t2 (at + words inside) (with_part (one_more rise - 1) f) fs (followed had inside) after whole lone base depth qs later height_end last ready
+    (piece_goes low told fs lone (makes lone whole) base depth later next end height_end last at (words inside) had inside later_p f.height (one_more rise - 1) (rise_of more behind mid next end later_p outer s2) (max f.height (one_more rise - 1)) refl refl goes)))
+sure_path_by low falls ps behind tokens next end p forks (sure_rule_apart q a more _ _ mid _ _ inside later_p inner outer braced e s s2) told calm t at f fs had after whole lone base depth qs later height_end last r goes =
+    let d = sure_derives a.parts [] tokens mid mid inside inner s in
+    let d2 = sure_derives more behind mid next end later_p outer s2 in
+    let rise = rise_of a.parts [] tokens mid mid inside inner s in
+    let own = rise_made q inside rise in
+    let among = among_sole (open_at tokens (rule_rows q)) a e in
+    let front = braced_front q a tokens braced e in
+    let brace = brace_first a.parts front.0 [] tokens mid mid inside inner front.1 s in
+    let base2 = base + count (met_frame q f).solid in
+    let deeper = depth + count (makes (makes_no_node_alone q) inside) in
+    subst (Path true low told calm t at tokens end height_end) (sym (append_assoc inner outer last))
+    (rule_waits low falls told calm q a more behind tokens brace.0 mid next end inside later_p own inner (outer ++ last) t at f fs had after whole lone base depth qs later height_end braced among d d2 brace.1
+    (rise_made_low q inside rise (rise_low a.parts [] tokens mid mid inside inner s)) r
+    (λ b deep heard h.
+    (let v = put a.parts (opened q (fresh (part.Rule q) deep)) in
+    subst (λ (x : Thread). Path true low heard false x at tokens mid own inner) (sym (begun_rule tokens q a deep e))
+    (subst (Path true low heard false v at tokens mid own) (append-nil inner)
+    (sure_path_by low falls a.parts [] tokens mid mid inside inner s heard false v at (new_frame q) [] nothing nothing inside (makes_no_node_alone q) base2 deeper [] [] own []
+    (rule_inside_ready low heard q a tokens inside at base2 deep depth among (λ i. (let x = h i in let y = b.level x.0 in omega (arith, x.1, y))) (lies_made low at depth q inside (lies_left low at depth (made q inside) later_p r.lies))
+    (omega (arith, rule_within (met_frame q f).solid (makes lone whole) base depth 0 b.solid r.within)))
+    (λ t2 g2 stands items tall. ends_path low heard t2 (at + words inside) mid g2 (followed nothing inside) (makes_no_node_alone q) (makes (makes_no_node_alone q) inside) base2 deeper own stands items
+    (shut_rise low heard t2 (at + words inside) q g2 [] inside base2 deeper rise stands (lone_some q a tokens mid inside among d) (tall ∙ no_more rise)))))))
+    (λ t2 ready. sure_path_by low falls more behind mid next end later_p outer s2 told false t2 (at + words inside) (with_part own (met_frame q f)) fs (followed had (made q inside)) after whole lone base depth qs later height_end last ready
+    (piece_goes low told fs lone (makes lone whole) base depth later next end height_end last at (words inside) had (made q inside) later_p f.height own (rise_of more behind mid next end later_p outer s2) (max (met_frame q f).height own) (words_made q inside) (omega (arith, met_height q f)) goes)))
