@@ -92,7 +92,7 @@ shallow_after [] ys n m e h = subst (λ (k : ℕ). AreShallow (take k ys)) (let 
 shallow_after (x ∷ xs) ys n zero e h = absurd (omega arith)
 shallow_after (x ∷ xs) ys n (suc m) e h = shallow_after xs ys n m (omega arith) h.1
 
-shallow_fewer : (n m : ℕ) (xs : List ℕ) → n ≤ m → AreShallow (take m xs) → AreShallow (take n xs)
+pub shallow_fewer : (n m : ℕ) (xs : List ℕ) → n ≤ m → AreShallow (take m xs) → AreShallow (take n xs)
 shallow_fewer zero m [] l h = tt
 shallow_fewer zero m (x ∷ xs) l h = tt
 shallow_fewer (suc n) zero xs l h = absurd (omega arith)

@@ -1,5 +1,5 @@
 -- Where parts derive tokens in a way that is sure, a thread has a path.
-use Rattle.std.proofs.Common.{◌≡◌, ℕ, suc, ◌+◌, ◌-◌, ◌<◌, ◌≤◌, Bool, true, false, ◌&&◌, ◌||◌, ◌⊎◌, inl, inr, List, [], ◌∷◌, ◌++◌, map, length, Some, None, refl, sym, ◌∙◌, ap, subst, arith, append_assoc, append-nil}
+use Rattle.std.proofs.Common.{◌≡◌, ℕ, suc, ◌+◌, ◌-◌, ◌<◌, ◌≤◌, Bool, true, false, ◌&&◌, ◌||◌, ◌⊎◌, inl, inr, List, [], ◌∷◌, ◌++◌, map, length, take, Some, None, refl, sym, ◌∙◌, ap, subst, arith, append_assoc, append-nil}
 use Rattle.std.specs.Prelude.{zero, max, if◌then◌else◌, not, nat_lt}
 use Rattle.std.proofs.lemmas.Bool.{and_parts, lt-ltb, le-ltb, eq-eqb}
 use Rattle.zig_tree.specs.declared.token.TokenKind.{TokenKind}
@@ -31,9 +31,9 @@ use Rattle.zig_parse.proofs.TreeTables.{lone_filled, rule_led}
 use Rattle.zig_parse.proofs.Balance.{reads_some}
 use Rattle.zig_parse.proofs.Spelled.{amount}
 use Rattle.zig_parse.proofs.Story.{amount_followed, group_keeps_led, led_first, led_rest, made_one, one_amount, piece_amount, several, worded}
-use Rattle.zig_parse.proofs.Ways.{Fork, Taken, noted, Sure, sure_none, sure_token, sure_one_of, sure_group, sure_rule, sure_group_apart, sure_rule_apart}
+use Rattle.zig_parse.proofs.Ways.{Fork, Taken, taken_sole, noted, Sure, sure_none, sure_token, sure_one_of, sure_group, sure_rule, sure_group_apart, sure_rule_apart}
 use Rattle.zig_parse.proofs.Paths.{look_of, parts_of_items, is_cons, Path, path_ends, path_closes, path_rule, path_group, path_reads, path_waits}
-use Rattle.zig_parse.proofs.Depths.{words, words_followed, words_made, words_read, IsFull, derived_full, full_made, Lies, lies_left, lies_right, lies_made, IsLow, next_low, read_low}
+use Rattle.zig_parse.proofs.Depths.{words, words_followed, words_made, words_read, IsFull, derived_full, full_made, shallow_fewer, Lies, lies_left, lies_right, lies_made, IsLow, next_low, read_low}
 use Rattle.zig_parse.proofs.Calm.{is_calm_rule, starts_calm, rule_forks, group_forks, fork_starts, calm_starts, is_free, is_free_group, braces_not_free, lone_row_free, group_row_free, taken_among}
 use Rattle.zig_parse.proofs.Rises.{among_sole, sure_derives, rise_made, rise_made_low, rise_of, rise_low}
 use Rattle.zig_parse.proofs.Follows.{Closes, closes_none, closes_one, closes_items, closes_risen, closes_fewer, Stands, Begins, met_begins, met_frame, met_height, hard_frame, makes, new_frame, open_stands, shut_stands, shut_rise, read_stands, read_shallow, received_shallow, received_stands}
@@ -758,3 +758,74 @@ sure_path_by low falls ps behind tokens next end p forks (sure_rule_apart q a mo
     (shut_rise low heard t2 (at + words inside) q g2 [] inside base2 deeper rise stands (lone_some q a tokens mid inside among d) (tall ∙ no_more rise)))))))
     (λ t2 ready. sure_path_by low falls more behind mid next end later_p outer s2 told false t2 (at + words inside) (with_part own (met_frame q f)) fs (followed had (made q inside)) after whole lone base depth qs later height_end last ready
     (piece_goes low told fs lone (makes lone whole) base depth later next end height_end last at (words inside) had (made q inside) later_p f.height own (rise_of more behind mid next end later_p outer s2) (max (met_frame q f).height own) (words_made q inside) (omega (arith, met_height q f)) goes)))
+
+-- ---- a whole sentence
+
+taken_one : (later : List Part) (tokens end : List TokenKind) (b a : Alternative) (choices : List Bool) → Taken later tokens end (b ∷ []) a choices → (a ≡ b) × (choices ≡ [])
+taken_one later tokens end b a choices (taken_sole _) = (refl, refl)
+
+none_sure : (behind : List Part) (tokens next end : List TokenKind) (p : Pieces) (forks : List Fork) → Sure [] behind tokens next end p forks → (tokens ≡ next) × (p ≡ nothing) × (forks ≡ [])
+none_sure behind tokens next end p forks (sure_none _ _ _) = (refl, refl, refl)
+
+-- how many tokens lie shallow in a tree
+abbrev pub low_in : Pieces → ℕ → Type 0
+low_in tree n = AreShallow (take n (token_depths 0 tree))
+
+low_lies : (tree : Pieces) → Lies (low_in tree) 0 0 tree
+low_lies tree n m e l = subst (λ (k : ℕ). AreShallow (take k (token_depths 0 tree))) (let same : m ≡ n = omega arith in same) l
+
+low_falls : (tree : Pieces) (n m : ℕ) → n ≤ m → low_in tree m → low_in tree n
+low_falls tree n m e l = shallow_fewer n m (token_depths 0 tree) e l
+
+root_sole : (tokens : List TokenKind) (a : Alternative) → Taken [] tokens [] (open_at tokens (rule_rows rule.Root)) a [] → open_at tokens (rule_rows rule.Root) ≡ a ∷ []
+unfolding rule_rows
+root_sole tokens a t = ap (λ (x : Alternative). x ∷ []) (sym (taken_one [] tokens [] _ a [] t).0)
+
+root_choices : (tokens : List TokenKind) (a : Alternative) (choices : List Bool) → Taken [] tokens [] (open_at tokens (rule_rows rule.Root)) a choices → choices ≡ []
+unfolding rule_rows
+root_choices tokens a choices t = (taken_one [] tokens [] _ a choices t).1
+
+root_path : (low : ℕ → Type 0) (falls : (n m : ℕ) → n ≤ m → low m → low n) (tokens : List TokenKind) (a : Alternative) (inside : Pieces) (inner : List Fork) → Taken [] tokens [] (open_at tokens (rule_rows rule.Root)) a []
+    → Lies low 0 0 (made rule.Root inside) → (s : Sure a.parts [] tokens [] [] inside inner)
+    → Path true low true false (begun (look_of tokens) (part.Rule rule.Root) 0) 0 tokens [] (rise_made rule.Root inside (rise_of a.parts [] tokens [] [] inside inner s)) inner
+root_path low falls tokens a inside inner taken lies s =
+    let e = root_sole tokens a taken in
+    let d = sure_derives a.parts [] tokens [] [] inside inner s in
+    let rise = rise_of a.parts [] tokens [] [] inside inner s in
+    let own = rise_made rule.Root inside rise in
+    let among = taken_among [] tokens [] (open_at tokens (rule_rows rule.Root)) a [] taken in
+    let v = put a.parts (opened rule.Root (fresh (part.Rule rule.Root) 0)) in
+    let deeper = 0 + count (makes (makes_no_node_alone rule.Root) inside) in
+    subst (λ (x : Thread). Path true low true false x 0 tokens [] own inner) (sym (begun_rule tokens rule.Root a 0 e))
+    (subst (Path true low true false v 0 tokens [] own) (append-nil inner)
+    (sure_path_by low falls a.parts [] tokens [] [] inside inner s true false v 0 (new_frame rule.Root) [] nothing nothing inside (makes_no_node_alone rule.Root) 0 deeper [] [] own []
+    (rule_inside_ready low true rule.Root a tokens inside 0 0 0 0 among (λ i. omega arith) (lies_made low 0 0 rule.Root inside lies) (omega arith))
+    (λ t2 g2 stands items tall. ends_path low true t2 (0 + words inside) [] g2 (followed nothing inside) (makes_no_node_alone rule.Root) (makes (makes_no_node_alone rule.Root) inside) 0 deeper own stands items
+    (shut_rise low true t2 (0 + words inside) rule.Root g2 [] inside 0 deeper rise stands (lone_some rule.Root a tokens [] inside among d) (tall ∙ no_more rise)))))
+
+whole_at : (low : ℕ → Type 0) (falls : (n m : ℕ) → n ≤ m → low m → low n) (tokens mid : List TokenKind) (a : Alternative) (inside : Pieces) (choices : List Bool) (inner outer : List Fork) → choices ≡ [] → mid ≡ [] → outer ≡ []
+    → Taken [] tokens [] (open_at tokens (rule_rows rule.Root)) a choices → Lies low 0 0 (made rule.Root inside) → Sure a.parts [] tokens mid [] inside inner
+    → (height : ℕ) × Path true low true false (begun (look_of tokens) (part.Rule rule.Root) 0) 0 tokens [] height (noted tokens choices ++ (inner ++ outer))
+whole_at low falls tokens mid a inside choices inner outer c m o taken lies s =
+    let t2 = subst (Taken [] tokens [] (open_at tokens (rule_rows rule.Root)) a) c taken in
+    let s2 = subst (λ (l : List TokenKind). Sure a.parts [] tokens l [] inside inner) m s in
+    (rise_made rule.Root inside (rise_of a.parts [] tokens [] [] inside inner s2),
+    subst (λ (l : List Bool). Path true low true false (begun (look_of tokens) (part.Rule rule.Root) 0) 0 tokens [] (rise_made rule.Root inside (rise_of a.parts [] tokens [] [] inside inner s2)) (noted tokens l ++ (inner ++ outer))) (sym c)
+    (subst (λ (l : List Fork). Path true low true false (begun (look_of tokens) (part.Rule rule.Root) 0) 0 tokens [] (rise_made rule.Root inside (rise_of a.parts [] tokens [] [] inside inner s2)) (inner ++ l)) (sym o)
+    (subst (λ (l : List Fork). Path true low true false (begun (look_of tokens) (part.Rule rule.Root) 0) 0 tokens [] (rise_made rule.Root inside (rise_of a.parts [] tokens [] [] inside inner s2)) l) (sym (append-nil inner))
+    (root_path low falls tokens a inside inner t2 lies s2))))
+
+whole_path : (tokens mid : List TokenKind) (a : Alternative) (inside later : Pieces) (choices : List Bool) (inner outer : List Fork) → Taken [] tokens [] (open_at tokens (rule_rows rule.Root)) a choices → Sure a.parts [] tokens mid [] inside inner
+    → (mid ≡ []) × (later ≡ nothing) × (outer ≡ [])
+    → (height : ℕ) × Path true (low_in (followed (made rule.Root inside) later)) true false (begun (look_of tokens) (part.Rule rule.Root) 0) 0 tokens [] height (noted tokens choices ++ (inner ++ outer))
+whole_path tokens mid a inside later choices inner outer taken s h =
+    let tree = followed (made rule.Root inside) later in
+    whole_at (low_in tree) (low_falls tree) tokens mid a inside choices inner outer (root_choices tokens a choices taken) h.0 h.2 taken (lies_left (low_in tree) 0 0 (made rule.Root inside) later (low_lies tree)) s
+
+-- The thread of a tree that is sure has a path, and is not marked as deep while the tokens that it has read
+-- lie no deeper than 200.
+pub sure_path : (tokens : List TokenKind) (tree : Pieces) (forks : List Fork) → Sure (part.Rule rule.Root ∷ []) [] tokens [] [] tree forks
+    → (height : ℕ) × Path true (low_in tree) true false (begun (look_of tokens) (part.Rule rule.Root) 0) 0 tokens [] height forks
+unfolding is_braced
+sure_path tokens tree forks (sure_rule _ a _ _ _ mid _ _ inside later choices inner outer free taken s s2) = whole_path tokens mid a inside later choices inner outer taken s (none_sure [] mid [] [] later outer s2)
+sure_path tokens tree forks (sure_rule_apart _ a _ _ _ mid _ _ inside later inner outer braced e s s2) = absurd (cc)
