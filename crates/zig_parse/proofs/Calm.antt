@@ -13,7 +13,7 @@ use Rattle.zig_tree.specs.declared.grammar.When.TheVariants as when
 use Rattle.zig_tree.specs.declared.grammar.Part.{Part}
 use Rattle.zig_tree.specs.declared.grammar.Part.TheVariants as part
 use Rattle.zig_tree.specs.Grammar.{Alternative, group_rows, holds, rule_rows}
-use Rattle.zig_tree.specs.GrammarSentences.{makes_no_node_alone, next_kind, second_kind, first_that_holds, with_shared, open_at, Among}
+use Rattle.zig_tree.specs.GrammarSentences.{makes_no_node_alone, next_kind, second_kind, with_shared, open_at, Among}
 use Rattle.zig_parse.specs.Choices.{is_shared}
 use Rattle.zig_parse.proofs.Derived.{each_row, row_tested, open_is_row}
 use Rattle.zig_parse.proofs.Ways.{Taken, taken_sole, taken_first, taken_second, has_braces}
@@ -446,6 +446,7 @@ pub calm_starts : (r : Rule) (later : List Part) (tokens end : List TokenKind) (
     → (choices ≡ []) × (starts_calm a.parts ≡ true)
 calm_starts r later tokens end a choices h t =
     let calm = implied (is_calm_rule r) (each_row row_calm (rule_rows r)) (rule_calm r) h in
-    let among = open_is_row tokens a (rule_rows r) (taken_among later tokens end (open_at tokens (rule_rows r)) a choices t) in
-    (elim (taken_two later tokens end (open_at tokens (rule_rows r)) a choices t) [ inl none ↦ none | inr two ↦ absurd (not_shared (rule_rows r) calm (two_open tokens (rule_rows r) two)) ],
-     row_calm_starts a (row_tested row_calm a (rule_rows r) calm among))
+    let among = open_is_row tokens a (rule_rows r) (taken_among later tokens end (open_at tokens (rule_rows r)) a choices t) in (
+      elim (taken_two later tokens end (open_at tokens (rule_rows r)) a choices t) [ inl none ↦ none | inr two ↦ absurd (not_shared (rule_rows r) calm (two_open tokens (rule_rows r) two)) ],
+      row_calm_starts a (row_tested row_calm a (rule_rows r) calm among),
+    )

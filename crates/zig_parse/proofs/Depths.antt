@@ -6,7 +6,7 @@ use Rattle.zig_tree.specs.declared.token.TokenKind.{TokenKind}
 use Rattle.zig_tree.specs.declared.grammar.Rule.{Rule}
 use Rattle.zig_tree.specs.declared.grammar.Part.{Part}
 use Rattle.zig_tree.specs.GrammarSentences.{Pieces, nothing, word, node, followed, makes_no_node_alone, is_one_node, made, height, token_depths, AreShallow, Derives, derives_none, derives_token, derives_one_of, derives_group, derives_rule}
-use Rattle.zig_tree.specs.Grammar.{Alternative, group_rows, rule_rows}
+use Rattle.zig_tree.specs.Grammar.{rule_rows}
 use Rattle.zig_parse.proofs.Derived.{open_is_row, row_tested}
 use Rattle.zig_parse.proofs.Shapes.{count, row_fills}
 use Rattle.zig_parse.proofs.Tables.{rule_filled}

@@ -1,16 +1,15 @@
 -- A thread that follows pieces of a tree: how its innermost node and its depth stand to them.
-use Rattle.std.proofs.Common.{◌≡◌, ℕ, suc, ◌+◌, ◌-◌, ◌<◌, ◌≤◌, Bool, true, false, ◌||◌, ◌⊎◌, inl, inr, List, [], ◌∷◌, ◌++◌, map, length, refl, sym, ◌∙◌, ap, subst, arith}
-use Rattle.std.specs.Prelude.{zero, max, min, if◌then◌else◌, not, ◌&&◌, nat_lt, ◌^◌}
-use Rattle.std.proofs.lemmas.Bool.{lt-ltb, le-ltb, ltb-false, ltb-true}
+use Rattle.std.proofs.Common.{◌≡◌, ℕ, ◌+◌, ◌-◌, ◌<◌, ◌≤◌, Bool, true, false, ◌||◌, ◌⊎◌, inl, inr, List, ◌∷◌, length, refl, sym, ◌∙◌, ap, subst, arith}
+use Rattle.std.specs.Prelude.{max, min, if◌then◌else◌, not, ◌&&◌, nat_lt, ◌^◌}
+use Rattle.std.proofs.lemmas.Bool.{le-ltb, ltb-false, ltb-true}
 use Rattle.zig_tree.specs.declared.grammar.Rule.{Rule}
 use Rattle.zig_tree.specs.declared.grammar.Part.{Part}
 use Rattle.zig_tree.specs.declared.token.TokenKind.{TokenKind}
-use Rattle.zig_tree.specs.GrammarSentences.{Pieces, nothing, word, node, followed, makes_no_node_alone, is_one_node, made, height}
+use Rattle.zig_tree.specs.GrammarSentences.{Pieces, nothing, word, followed, makes_no_node_alone, is_one_node, made, height}
 use Rattle.zig_parse.specs.declared.thread.Frame.{Frame}
-use Rattle.zig_parse.specs.declared.thread.Item.{Item}
 use Rattle.zig_parse.specs.declared.thread.Thread.{Thread}
-use Rattle.zig_parse.specs.Stack.{rest, with_first}
-use Rattle.zig_parse.specs.Threads.{after_read, closed, closed_from, gained, hardened, is_deep, is_never_alone, item, met, met_from, one_more, opened, part_height, passed, put, received, collapses, risen, touched_from, with_gain, with_part}
+use Rattle.zig_parse.specs.Stack.{with_first}
+use Rattle.zig_parse.specs.Threads.{after_read, closed, closed_from, gained, hardened, is_deep, is_never_alone, met, met_from, one_more, opened, part_height, passed, put, received, collapses, risen, touched_from, with_gain, with_part}
 use Rattle.zig_parse.proofs.Shapes.{count}
 use Rattle.zig_parse.proofs.Spelled.{amount}
 use Rattle.zig_parse.proofs.TreeTables.{same_lone}
@@ -226,7 +225,7 @@ piece_stands low told t u v at later f g fs had piece lone is_node base depth ri
   some = λ h. omega (arith, amount_followed had piece);
   none = λ h. absurd (more_parts f.parts (sym (ap (λ (x : Frame). x.parts) eg) ∙ h));
   lies = λ l. (let j = low_joined depth (words had) (words piece) (height had) (height piece) (b.lies (falls at later within l)) (lies l) in
-  subst (λ (n : ℕ). IsLow depth n (height (followed had piece))) (sym (words_followed had piece)) (subst (IsLow depth (words had + words piece)) (sym (height_followed had piece)) j));
+      subst (λ (n : ℕ). IsLow depth n (height (followed had piece))) (sym (words_followed had piece)) (subst (IsLow depth (words had + words piece)) (sym (height_followed had piece)) j));
   tall = omega (arith, ap (λ (x : Frame). x.height) eg, b.tall, height_followed had piece);
 }
 

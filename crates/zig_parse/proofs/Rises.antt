@@ -1,12 +1,11 @@
 -- What parts derive in a way that is sure, and how many nodes the first pass counts one in the other there.
-use Rattle.std.proofs.Common.{◌≡◌, ℕ, ◌+◌, ◌-◌, ◌<◌, ◌≤◌, Bool, true, false, ◌⊎◌, inl, inr, List, [], ◌∷◌, ◌++◌, length, refl, sym, ◌∙◌, ap, subst, arith}
+use Rattle.std.proofs.Common.{◌≡◌, ℕ, ◌-◌, ◌≤◌, Bool, true, false, inl, List, [], ◌∷◌, ◌++◌, refl, sym, subst, arith}
 use Rattle.std.specs.Prelude.{max, if◌then◌else◌, ◌&&◌}
 use Rattle.zig_tree.specs.declared.token.TokenKind.{TokenKind}
 use Rattle.zig_tree.specs.declared.grammar.Rule.{Rule}
 use Rattle.zig_tree.specs.declared.grammar.Part.{Part}
-use Rattle.zig_tree.specs.declared.grammar.Part.TheVariants as part
 use Rattle.zig_tree.specs.Grammar.{Alternative, group_rows, rule_rows}
-use Rattle.zig_tree.specs.GrammarSentences.{Pieces, nothing, word, node, followed, makes_no_node_alone, is_one_node, made, open_at, Among, Derives, derives_none, derives_token, derives_one_of, derives_group, derives_rule, height}
+use Rattle.zig_tree.specs.GrammarSentences.{Pieces, nothing, node, makes_no_node_alone, is_one_node, made, open_at, Among, Derives, derives_none, derives_token, derives_one_of, derives_group, derives_rule, height}
 use Rattle.zig_parse.specs.Threads.{one_more}
 use Rattle.zig_parse.proofs.Story.{height_followed}
 use Rattle.zig_parse.proofs.Calm.{taken_among}

@@ -1,6 +1,6 @@
 -- Where parts derive tokens in a way that is sure, a thread has a path.
 use Rattle.std.proofs.Common.{◌≡◌, ℕ, suc, ◌+◌, ◌-◌, ◌<◌, ◌≤◌, Bool, true, false, ◌&&◌, ◌||◌, ◌⊎◌, inl, inr, List, [], ◌∷◌, ◌++◌, map, length, take, Some, None, refl, sym, ◌∙◌, ap, subst, arith, append_assoc, append-nil}
-use Rattle.std.specs.Prelude.{zero, max, if◌then◌else◌, not, nat_lt}
+use Rattle.std.specs.Prelude.{max, if◌then◌else◌, not, nat_lt}
 use Rattle.std.proofs.lemmas.Bool.{and_parts, lt-ltb, le-ltb, eq-eqb}
 use Rattle.zig_tree.specs.declared.token.TokenKind.{TokenKind}
 use Rattle.zig_tree.specs.declared.token.TokenKind.TheVariants.{LeftBrace, RightBrace}
@@ -8,19 +8,17 @@ use Rattle.zig_tree.specs.declared.grammar.Rule.{Rule}
 use Rattle.zig_tree.specs.declared.grammar.Rule.TheVariants as rule
 use Rattle.zig_tree.specs.declared.grammar.Group.{Group}
 use Rattle.zig_tree.specs.declared.grammar.Group.TheVariants as group
-use Rattle.zig_tree.specs.declared.grammar.TokenClass.{TokenClass}
 use Rattle.zig_tree.specs.declared.grammar.Part.{Part}
 use Rattle.zig_tree.specs.declared.grammar.Part.TheVariants as part
-use Rattle.zig_tree.specs.Kinds.{has_kind, is_kind, number_of}
+use Rattle.zig_tree.specs.Kinds.{is_kind, number_of}
 use Rattle.zig_tree.specs.Grammar.{Alternative, group_rows, rule_rows}
-use Rattle.zig_tree.specs.GrammarSentences.{Pieces, nothing, word, node, followed, makes_no_node_alone, is_one_node, made, open_at, Among, Derives, height, token_depths, AreShallow, next_kind}
+use Rattle.zig_tree.specs.GrammarSentences.{Pieces, nothing, word, followed, makes_no_node_alone, is_one_node, made, open_at, Among, Derives, height, token_depths, AreShallow, next_kind}
 use Rattle.zig_parse.specs.declared.thread.Frame.{Frame}
 use Rattle.zig_parse.specs.declared.thread.Item.{Item}
 use Rattle.zig_parse.specs.declared.thread.Thread.{Thread}
-use Rattle.zig_parse.specs.declared.thread.Move.{Move}
 use Rattle.zig_parse.specs.declared.thread.Move.TheVariants as move
-use Rattle.zig_parse.specs.Stack.{rest, with_first}
-use Rattle.zig_parse.specs.Threads.{after_read, closed, fresh, gained, hardened, surround, has_braces, is_deep, is_apart, is_braced, is_never_alone, item, met, met_from, met_part, one_more, opened, part_height, passed, put, received, replaced, risen, touched_from, with_gain, with_part}
+use Rattle.zig_parse.specs.Stack.{rest}
+use Rattle.zig_parse.specs.Threads.{after_read, closed, fresh, hardened, surround, has_braces, is_deep, is_apart, is_braced, is_never_alone, item, met, met_from, met_part, one_more, opened, part_height, passed, put, received, replaced, risen, touched_from, with_part}
 use Rattle.zig_parse.specs.Moves.{apart_from, move_at, move_from, next_move, reading, waits_for}
 use Rattle.zig_parse.specs.Passes.{begun, begun_by, enclosed, own_height}
 use Rattle.zig_parse.proofs.Picks.{choices_as, parts_in}
@@ -33,7 +31,7 @@ use Rattle.zig_parse.proofs.Spelled.{amount}
 use Rattle.zig_parse.proofs.Story.{amount_followed, group_keeps_led, led_first, led_rest, made_one, one_amount, piece_amount, several, worded}
 use Rattle.zig_parse.proofs.Ways.{Fork, Taken, taken_sole, noted, Sure, sure_none, sure_token, sure_one_of, sure_group, sure_rule, sure_group_apart, sure_rule_apart}
 use Rattle.zig_parse.proofs.Paths.{look_of, parts_of_items, is_cons, Path, path_ends, path_closes, path_rule, path_group, path_reads, path_waits}
-use Rattle.zig_parse.proofs.Depths.{words, words_followed, words_made, words_read, IsFull, derived_full, full_made, shallow_fewer, Lies, lies_left, lies_right, lies_made, IsLow, next_low, read_low}
+use Rattle.zig_parse.proofs.Depths.{words, words_followed, words_made, words_read, derived_full, full_made, shallow_fewer, Lies, lies_left, lies_right, lies_made, IsLow, next_low, read_low}
 use Rattle.zig_parse.proofs.Calm.{is_calm_rule, starts_calm, rule_forks, group_forks, fork_starts, calm_starts, is_free, is_free_group, braces_not_free, lone_row_free, group_row_free, taken_among}
 use Rattle.zig_parse.proofs.Rises.{among_sole, sure_derives, rise_made, rise_made_low, rise_of, rise_low}
 use Rattle.zig_parse.proofs.Follows.{Closes, closes_none, closes_one, closes_items, closes_risen, closes_fewer, Stands, Begins, met_begins, met_frame, met_height, hard_frame, makes, new_frame, open_stands, shut_stands, shut_rise, read_stands, read_shallow, received_shallow, received_stands}
@@ -368,7 +366,7 @@ rule_ready : (low : ℕ → Type 0) (told calm : Bool) (r : Rule) (a : Alternati
     → Taken (ps ++ behind) tokens end (open_at tokens (rule_rows r)) a choices → (ready : Ready low told calm (part.Rule r ∷ ps) behind (followed (made r inside) p) t at f fs had after whole lone base depth qs later)
     → Begins low told (met r (passed ready.stands.u)) at (met_frame r f) fs had lone (makes lone whole) base depth
     → Ready low told (calm || is_cons choices) a.parts (ps ++ behind) inside (replaced (Some r) a.parts ready.stands.u) at (new_frame r) (met_frame r f ∷ fs) nothing nothing inside (makes_no_node_alone r) (base + count (met_frame r f).solid) (depth + count (makes (makes_no_node_alone r) inside)) []
-        (map (item (suc (length fs))) ps ++ later)
+    (map (item (suc (length fs))) ps ++ later)
 rule_ready low told calm r a ps behind tokens end inside p choices t at f fs had after whole lone base depth qs later taken ready b =
     let among = taken_among (ps ++ behind) tokens end (open_at tokens (rule_rows r)) a choices taken in
     record {
@@ -808,12 +806,13 @@ whole_at : (low : ℕ → Type 0) (falls : (n m : ℕ) → n ≤ m → low m →
     → (height : ℕ) × Path true low true false (begun (look_of tokens) (part.Rule rule.Root) 0) 0 tokens [] height (noted tokens choices ++ (inner ++ outer))
 whole_at low falls tokens mid a inside choices inner outer c m o taken lies s =
     let t2 = subst (Taken [] tokens [] (open_at tokens (rule_rows rule.Root)) a) c taken in
-    let s2 = subst (λ (l : List TokenKind). Sure a.parts [] tokens l [] inside inner) m s in
-    (rise_made rule.Root inside (rise_of a.parts [] tokens [] [] inside inner s2),
-    subst (λ (l : List Bool). Path true low true false (begun (look_of tokens) (part.Rule rule.Root) 0) 0 tokens [] (rise_made rule.Root inside (rise_of a.parts [] tokens [] [] inside inner s2)) (noted tokens l ++ (inner ++ outer))) (sym c)
-    (subst (λ (l : List Fork). Path true low true false (begun (look_of tokens) (part.Rule rule.Root) 0) 0 tokens [] (rise_made rule.Root inside (rise_of a.parts [] tokens [] [] inside inner s2)) (inner ++ l)) (sym o)
-    (subst (λ (l : List Fork). Path true low true false (begun (look_of tokens) (part.Rule rule.Root) 0) 0 tokens [] (rise_made rule.Root inside (rise_of a.parts [] tokens [] [] inside inner s2)) l) (sym (append-nil inner))
-    (root_path low falls tokens a inside inner t2 lies s2))))
+    let s2 = subst (λ (l : List TokenKind). Sure a.parts [] tokens l [] inside inner) m s in (
+      rise_made rule.Root inside (rise_of a.parts [] tokens [] [] inside inner s2),
+      subst (λ (l : List Bool). Path true low true false (begun (look_of tokens) (part.Rule rule.Root) 0) 0 tokens [] (rise_made rule.Root inside (rise_of a.parts [] tokens [] [] inside inner s2)) (noted tokens l ++ (inner ++ outer))) (sym c)
+          (subst (λ (l : List Fork). Path true low true false (begun (look_of tokens) (part.Rule rule.Root) 0) 0 tokens [] (rise_made rule.Root inside (rise_of a.parts [] tokens [] [] inside inner s2)) (inner ++ l)) (sym o)
+          (subst (λ (l : List Fork). Path true low true false (begun (look_of tokens) (part.Rule rule.Root) 0) 0 tokens [] (rise_made rule.Root inside (rise_of a.parts [] tokens [] [] inside inner s2)) l) (sym (append-nil inner))
+          (root_path low falls tokens a inside inner t2 lies s2))),
+    )
 
 whole_path : (tokens mid : List TokenKind) (a : Alternative) (inside later : Pieces) (choices : List Bool) (inner outer : List Fork) → Taken [] tokens [] (open_at tokens (rule_rows rule.Root)) a choices → Sure a.parts [] tokens mid [] inside inner
     → (mid ≡ []) × (later ≡ nothing) × (outer ≡ [])
