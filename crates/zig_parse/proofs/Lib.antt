@@ -30,4 +30,5 @@ pub mod Calm
 pub mod Rises
 pub mod Follows
 pub mod Paths
+pub mod PathSteps
 pub mod SurePaths
