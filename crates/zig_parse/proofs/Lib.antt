@@ -37,3 +37,10 @@ pub mod Operands
 pub mod Bodies
 pub mod Choosing
 pub mod Surely
+pub mod Depths
+pub mod Calm
+pub mod Rises
+pub mod Follows
+pub mod Paths
+pub mod PathSteps
+pub mod SurePaths
