@@ -26,3 +26,7 @@ pub mod Costs
 pub mod LastToken
 pub mod Ways
 pub mod Paths
+pub mod SameParts
+pub mod Tidy
+pub mod Moving
+pub mod Opening
