@@ -30,3 +30,5 @@ pub mod SameParts
 pub mod Tidy
 pub mod Moving
 pub mod Opening
+pub mod Free
+pub mod Settling
