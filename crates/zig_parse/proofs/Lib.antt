@@ -32,3 +32,5 @@ pub mod Moving
 pub mod Opening
 pub mod Free
 pub mod Settling
+pub mod Keeping
+pub mod Living
