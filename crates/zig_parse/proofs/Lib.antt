@@ -34,3 +34,6 @@ pub mod Free
 pub mod Settling
 pub mod Keeping
 pub mod Living
+pub mod Tracking
+pub mod Entering
+pub mod EnteringSteps
