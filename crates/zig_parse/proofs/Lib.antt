@@ -26,3 +26,4 @@ pub mod Costs
 pub mod LastToken
 pub mod Ways
 pub mod Paths
+pub mod Behind

@@ -1,5 +1,5 @@
 // Laws of the grammar and of the function on lists that the parser computes. They have no code.
-ghost use Rattle.zig_parse.specs.Laws.{DerivedIsSentence, MovesSuffice, NeverBoth, OneReason, OneRefusal, OneTree, ReadsTree};
+ghost use Rattle.zig_parse.specs.Laws.{DerivedIsSentence, LastLook, LastUnexpected, MovesSuffice, NeverBoth, OneReason, OneRefusal, OneTree, ReadsTree};
 
 /// A list of tokens has at most one tree.
 pub fn one_tree()
@@ -26,4 +26,10 @@ pub fn derived_is_sentence()
 /// At a token each thread has no more moves than its open nodes and the things to come tell.
 pub fn moves_suffice()
     ensures { MovesSuffice }
+{}
+
+/// What stands behind a token that is no identifier counts for no refusal of it.
+pub fn last_look()
+    ensures verdict { LastLook }
+    ensures unexpected { LastUnexpected }
 {}

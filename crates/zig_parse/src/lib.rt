@@ -23,7 +23,9 @@ mod survey;
 mod thread;
 
 pub use fault::SyntaxFault;
-pub use laws::{derived_is_sentence, moves_suffice, one_answer, one_tree, tree_is_derived};
+pub use laws::{
+    derived_is_sentence, last_look, moves_suffice, one_answer, one_tree, tree_is_derived,
+};
 pub use parser::parse;
 
 #[cfg(test)]
