@@ -43,7 +43,7 @@ is_no_label (when.In _) = true
 is_no_label (when.Both _) = true
 
 -- two looks take the same rows
-data Agree (a b : Look) : List Alternative → Type 0 where
+pub data Agree (a b : Look) : List Alternative → Type 0 where
   agree_none : Agree a b []
   agree_more : (r : Alternative) (rows : List Alternative) → holds a.kind a.next r.at ≡ holds b.kind b.next r.at → Agree a b rows → Agree a b (r ∷ rows)
 
@@ -61,7 +61,7 @@ other_holds k x y (when.Is _) h = refl
 other_holds k x y (when.In _) h = refl
 other_holds k x y (when.Both _) h = refl
 
-agree_plain : (a b : Look) (rows : List Alternative) → a.kind ≡ b.kind → each_row (λ (r : Alternative). is_no_label r.at) rows ≡ true → Agree a b rows
+pub agree_plain : (a b : Look) (rows : List Alternative) → a.kind ≡ b.kind → each_row (λ (r : Alternative). is_no_label r.at) rows ≡ true → Agree a b rows
 agree_plain a b [] e h = agree_none
 agree_plain a b (r ∷ rows) e h =
     let s = and_parts (is_no_label r.at) (each_row (λ (q : Alternative). is_no_label q.at) rows) h in
@@ -192,7 +192,7 @@ rule_plain rule.Switch = inr refl
 rule_plain rule.Prong = inr refl
 rule_plain rule.Item = inr refl
 
-group_plain : (g : Group) → each_row (λ (a : Alternative). is_no_label a.at) (group_rows g) ≡ true
+pub group_plain : (g : Group) → each_row (λ (a : Alternative). is_no_label a.at) (group_rows g) ≡ true
 unfolding group_rows
 group_plain group.RootMembers = refl
 group_plain group.Members = refl

@@ -27,3 +27,6 @@ pub mod LastToken
 pub mod Ways
 pub mod Paths
 pub mod Behind
+pub mod Endings
+pub mod EndingTests
+pub mod Completing
