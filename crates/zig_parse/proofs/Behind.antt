@@ -25,9 +25,9 @@ use Rattle.zig_parse.specs.declared.state.State.{State}
 use Rattle.zig_parse.specs.declared.survey.Verdict.{Verdict}
 use Rattle.zig_parse.specs.declared.survey.Verdict.TheVariants as verdict
 use Rattle.zig_parse.specs.Choices.{choices, matching, is_shared, first_parts, taken}
-use Rattle.zig_parse.specs.Moves.{move_at, move_from, moves_for_all, moving, moving_by, next_move, readers, reading, reading_by, rule_from, rule_of, settled, settled_all, spread, waits_for}
-use Rattle.zig_parse.specs.Threads.{after_read, fresh, is_braced, item, met, opened, passed, put, replaced}
-use Rattle.zig_parse.specs.Passes.{after_token, all_deep, any_waits, begun, begun_at, begun_by, begun_for, finished, has_read_all, inside, is_among, is_closed, kept_with, least_from, resumed_top, those_waiting, verdict_of}
+use Rattle.zig_parse.specs.Moves.{apart_from, move_at, move_from, moves_for_all, moving, moving_by, next_move, readers, reading, reading_by, settled, settled_all, spread, waits_for}
+use Rattle.zig_parse.specs.Threads.{after_read, fresh, has_braces, is_apart, is_braced, item, met, opened, passed, put, replaced}
+use Rattle.zig_parse.specs.Passes.{after_token, all_deep, any_waits, begun, begun_at, begun_by, begun_for, enclosed, finished, has_read_all, inside, is_among, is_closed, kept_with, least_from, part_choices, resumed_top, those_waiting, verdict_of}
 use Rattle.zig_parse.specs.Surveys.{entered, entered_waiting, left, next_live, next_verdict, read_live, read_waiting}
 use Rattle.zig_parse.proofs.Derived.{each_row}
 use Rattle.zig_parse.proofs.Tables.{same_kind}
@@ -110,7 +110,7 @@ move_same : (a b : Look) (apart : Bool) (p : Part) → a.kind ≡ b.kind → mov
 move_same a b apart (part.Token k) e = ap (λ (j : TokenKind). reading (is_kind k j)) e
 move_same a b apart (part.OneOf c) e = ap (λ (j : TokenKind). reading (has_kind c j)) e
 move_same a b apart (part.Rule r) e = ap (λ (j : TokenKind). if apart && is_braced r then reading (is_kind j kind.LeftBrace) else move.Rule r) e
-move_same a b apart (part.Group g) e = refl
+move_same a b apart (part.Group g) e = ap (λ (j : TokenKind). if apart && has_braces g then reading (is_kind j kind.LeftBrace) else move.Group g) e
 
 from_same : (a b : Look) (apart : Bool) (n : ℕ) (is : List Item) → a.kind ≡ b.kind → move_from a apart n is ≡ move_from b apart n is
 from_same a b apart n [] e = refl
@@ -375,20 +375,27 @@ none_reads (suc fuel) x y at (t ∷ ts) h =
 
 -- ---- what becomes of the tokens
 
-begun_same : (a b : Look) (goal : Rule) (depth : ℕ) → SameChoices a b → begun a goal depth ≡ begun b goal depth
-unfolding begun
-begun_same a b goal depth f = ap (λ (l : List (List Part)). begun_by l (opened goal (fresh goal depth))) (f (rule_rows goal))
+part_same : (a b : Look) (p : Part) → SameChoices a b → part_choices a p ≡ part_choices b p
+part_same a b (part.Rule r) f = f (rule_rows r)
+part_same a b (part.Group g) f = f (group_rows g)
+part_same a b (part.Token _) f = refl
+part_same a b (part.OneOf _) f = refl
 
-at_same : (a b : Look) (goal : Rule) (o : Option ℕ) → SameChoices a b → begun_at a goal o ≡ begun_at b goal o
-at_same a b goal None f = refl
-at_same a b goal (Some d) f = ap (λ (t : Thread). t ∷ []) (begun_same a b goal d f)
+begun_same : (a b : Look) (goal : Part) (depth : ℕ) → SameChoices a b → begun a goal depth ≡ begun b goal depth
+unfolding begun
+begun_same a b goal depth f = ap (λ (l : List (List Part)). begun_by l (enclosed goal (fresh goal depth))) (part_same a b goal f)
+
+for_same : (a b : Look) (waiting : List Thread) (goal : Part) → SameChoices a b → begun_for a waiting goal ≡ begun_for b waiting goal
+for_same a b waiting goal f = by (least_from None goal waiting)
+  where
+    by : (o : Option ℕ) → begun_at a goal o ≡ begun_at b goal o
+    by None = refl
+    by (Some d) = ap (λ (t : Thread). t ∷ []) (begun_same a b goal d f)
 
 inside_same : (a b : Look) (waiting : List Thread) → SameChoices a b → inside a waiting ≡ inside b waiting
 unfolding inside
 inside_same a b waiting f =
-    ap (λ (l : List Thread). l ++ (begun_for a waiting rule.Initializer ++ begun_for a waiting rule.ContainerBody)) (at_same a b rule.Block (least_from None rule.Block waiting) f)
-    ∙ ap (λ (l : List Thread). begun_for b waiting rule.Block ++ (l ++ begun_for a waiting rule.ContainerBody)) (at_same a b rule.Initializer (least_from None rule.Initializer waiting) f)
-    ∙ ap (λ (l : List Thread). begun_for b waiting rule.Block ++ (begun_for b waiting rule.Initializer ++ l)) (at_same a b rule.ContainerBody (least_from None rule.ContainerBody waiting) f)
+    rw (for_same a b waiting (part.Rule rule.Block) f, for_same a b waiting (part.Rule rule.Initializer) f, for_same a b waiting (part.Rule rule.ContainerBody) f, for_same a b waiting (part.Group group.ErrorBraces) f, for_same a b waiting (part.Group group.SwitchBraces) f) refl
 
 entered_same : (a b : Look) (ready : List Thread) → SameChoices a b → entered a ready ≡ entered b ready
 unfolding entered
@@ -427,24 +434,29 @@ none_kept (t ∷ ts) h = let e : after_read t ∷ [] ≡ [] = some_kept (after_r
 abbrev NoneWaits : List Thread → Type 0
 NoneWaits ts = any_waits ts ≡ false
 
-read_part : (n : TokenKind) (is : List Item) (count : ℕ) → move_from (identifier n) true count is ≡ move.Read → rule_from is ≡ None
+apart_part : (p : Part) → move_at (identifier kind.End) true p ≡ move.Read → is_apart p ≡ false
 unfolding identifier number_of
-read_part n [] count h = refl
-read_part n (i ∷ is) count h = by (nat_lt i.level count) i.part h
+apart_part (part.Token k) e = refl
+apart_part (part.OneOf c) e = refl
+apart_part (part.Rule r) e = by (is_braced r) e
   where
-    at_part : (p : Part) → move_at (identifier n) true p ≡ move.Read → rule_of p ≡ None
-    at_part (part.Token k) e = refl
-    at_part (part.OneOf c) e = refl
-    at_part (part.Group g) e = refl
-    at_part (part.Rule r) e = absurd (apart_by (is_braced r) e)
-      where
-        apart_by : (x : Bool) → (if x then reading (is_kind kind.Identifier kind.LeftBrace) else move.Rule r) ≡ move.Read → ⊥
-        apart_by true f = cc
-        apart_by false f = cc
+    by : (x : Bool) → (if x then reading (is_kind kind.Identifier kind.LeftBrace) else move.Rule r) ≡ move.Read → x ≡ false
+    by true f = absurd (cc)
+    by false f = refl
+apart_part (part.Group g) e = by (has_braces g) e
+  where
+    by : (x : Bool) → (if x then reading (is_kind kind.Identifier kind.LeftBrace) else move.Group g) ≡ move.Read → x ≡ false
+    by true f = absurd (cc)
+    by false f = refl
 
-    by : (x : Bool) (p : Part) → (if x then move.Close else move_at (identifier n) true p) ≡ move.Read → rule_of p ≡ None
-    by true p e = absurd (cc)
-    by false p e = at_part p e
+read_part : (n : TokenKind) (is : List Item) (count : ℕ) → move_from (identifier n) true count is ≡ move.Read → apart_from is ≡ None
+unfolding identifier
+read_part n [] count h = refl
+read_part n (i ∷ is) count h = by (nat_lt i.level count) h
+  where
+    by : (x : Bool) → (if x then move.Close else move_at (identifier n) true i.part) ≡ move.Read → (if is_apart i.part then Some i.part else None) ≡ None
+    by true e = absurd (cc)
+    by false e = rw (apart_part i.part (move_same (identifier kind.End) (identifier n) true i.part refl ∙ e)) refl
 
 one_waits : (n : TokenKind) (t : Thread) → any_waits (readers (identifier n) t) ≡ false
 unfolding readers any_waits waits_for next_move
