@@ -67,7 +67,7 @@ agree_plain a b (r ∷ rows) e h =
     let s = and_parts (is_no_label r.at) (each_row (λ (q : Alternative). is_no_label q.at) rows) h in
     agree_more r rows (plain_holds a.kind a.next b.next r.at s.0 ∙ ap (λ (k : TokenKind). holds k b.next r.at) e) (agree_plain a b rows e s.1)
 
-agree_other : (a b : Look) (rows : List Alternative) → a.kind ≡ b.kind → is_kind a.kind kind.Identifier ≡ false → Agree a b rows
+pub agree_other : (a b : Look) (rows : List Alternative) → a.kind ≡ b.kind → is_kind a.kind kind.Identifier ≡ false → Agree a b rows
 agree_other a b [] e h = agree_none
 agree_other a b (r ∷ rows) e h = agree_more r rows (other_holds a.kind a.next b.next r.at h ∙ ap (λ (k : TokenKind). holds k b.next r.at) e) (agree_other a b rows e h)
 
@@ -116,7 +116,7 @@ from_same : (a b : Look) (apart : Bool) (n : ℕ) (is : List Item) → a.kind �
 from_same a b apart n [] e = refl
 from_same a b apart n (i ∷ is) e = ap (λ (m : Move). if nat_lt i.level n then move.Close else m) (move_same a b apart i.part e)
 
-next_same : (a b : Look) (apart : Bool) (t : Thread) → a.kind ≡ b.kind → next_move a apart t ≡ next_move b apart t
+pub next_same : (a b : Look) (apart : Bool) (t : Thread) → a.kind ≡ b.kind → next_move a apart t ≡ next_move b apart t
 unfolding next_move
 next_same a b apart t e = from_same a b apart (length t.frames) t.items e
 
@@ -146,7 +146,7 @@ settled_same (suc n) a b at (t ∷ ts) e f =
 
 -- ---- at an identifier one rule alone looks at what stands behind it
 
-rule_plain : (r : Rule) → (r ≡ rule.Primary) ⊎ (each_row (λ (a : Alternative). is_no_label a.at) (rule_rows r) ≡ true)
+pub rule_plain : (r : Rule) → (r ≡ rule.Primary) ⊎ (each_row (λ (a : Alternative). is_no_label a.at) (rule_rows r) ≡ true)
 unfolding rule_rows
 rule_plain rule.Root = inr refl
 rule_plain rule.Member = inr refl
@@ -261,7 +261,7 @@ group_plain group.SwitchBraces = refl
 
 -- ---- a token that is an identifier is read where an operand begins
 
-identifier : TokenKind → Look
+pub identifier : TokenKind → Look
 identifier n = record { kind = kind.Identifier; next = n }
 
 label_parts : List Part

@@ -20,11 +20,12 @@ use Rattle.zig_tree.specs.GrammarSentences.{Pieces, nothing, word, followed, mad
 use Rattle.zig_parse.specs.declared.choice.Look.{Look}
 use Rattle.zig_parse.proofs.Derived.{each_row, open_is_row, row_tested}
 use Rattle.zig_parse.proofs.Tables.{same_kind}
+use Rattle.zig_parse.proofs.Paths.{look_of}
 use Rattle.zig_parse.proofs.Behind.{Agree, agree_none, agree_more, agree_plain, group_plain}
 use Rattle.zig_parse.proofs.Endings.{after_group, after_rule, each_kind, ends_before, ends_well, first_or, is_in, is_low, may_follow, opens, opens_behind, opens_next, quick, quick_all, quick_depth, quick_depth_of_group, quick_depth_of_rule, quick_group, quick_row_of_group, quick_row_of_rule, quick_rule, row_ends_before, row_is_low, row_is_quick, is_sampled, same_kinds, sample}
 use Rattle.zig_parse.proofs.EndingTests.{group_ends_well, group_rows_end, rule_ends_well, rule_rows_end}
 
-kind_among : (f : TokenKind → Bool) (k : TokenKind) (ks : List TokenKind) → is_in k ks ≡ true → each_kind f ks ≡ true → f k ≡ true
+pub kind_among : (f : TokenKind → Bool) (k : TokenKind) (ks : List TokenKind) → is_in k ks ≡ true → each_kind f ks ≡ true → f k ≡ true
 kind_among f k [] h e = absurd (cc)
 kind_among f k (j ∷ js) h e =
     let s = and_parts (f j) (each_kind f js) e in
@@ -50,28 +51,24 @@ low_more n (p ∷ ps) m l h =
 
 -- ---- the alternative that ends most quickly
 
-look_at_front : List TokenKind → Look
-look_at_front tokens = record { kind = next_kind tokens; next = second_kind tokens }
 
 if_agrees : (x y : Bool) (l m : Bool) → x ≡ y → (x ≡ true → l ≡ true → m ≡ true) → (x ≡ false → l ≡ true → m ≡ true) → l ≡ true → m ≡ true
 if_agrees true y l m e f g = f refl
 if_agrees false y l m e f g = g refl
 
-next_same : (n : ℕ) (x y : List TokenKind) (rows : List Alternative) → Agree (look_at_front x) (look_at_front y) rows → opens_next n x rows ≡ opens_next n y rows
-unfolding look_at_front
+next_same : (n : ℕ) (x y : List TokenKind) (rows : List Alternative) → Agree (look_of x) (look_of y) rows → opens_next n x rows ≡ opens_next n y rows
 next_same n x y [] agree_none = refl
 next_same zero x y (a ∷ more) (agree_more _ _ e h) = e
 next_same (suc n) x y (a ∷ more) (agree_more _ _ e h) = rw (e, next_same n x y more h) refl
 
-behind_same : (w : When) (n : ℕ) (x y : List TokenKind) (rows : List Alternative) → Agree (look_at_front x) (look_at_front y) rows → opens_behind w n x rows ≡ opens_behind w n y rows
+behind_same : (w : When) (n : ℕ) (x y : List TokenKind) (rows : List Alternative) → Agree (look_of x) (look_of y) rows → opens_behind w n x rows ≡ opens_behind w n y rows
 behind_same (when.Both _) n x y rows h = next_same n x y rows h
 behind_same when.Always n x y rows h = refl
 behind_same (when.Is _) n x y rows h = refl
 behind_same (when.In _) n x y rows h = refl
 behind_same when.Label n x y rows h = refl
 
-opens_same : (n : ℕ) (x y : List TokenKind) (rows : List Alternative) → Agree (look_at_front x) (look_at_front y) rows → opens n x rows ≡ opens n y rows
-unfolding look_at_front
+opens_same : (n : ℕ) (x y : List TokenKind) (rows : List Alternative) → Agree (look_of x) (look_of y) rows → opens n x rows ≡ opens n y rows
 opens_same n x y [] agree_none = refl
 opens_same zero x y (a ∷ more) (agree_more _ _ e h) = e
 opens_same (suc n) x y (a ∷ more) (agree_more _ _ e h) = rw (e, behind_same a.at n x y more h, opens_same n x y more h) refl
@@ -126,7 +123,7 @@ among_open whole (suc n) tokens depth (a ∷ more) o q l =
     by false h f g = g h
 
 quick_found : (n depth : ℕ) (tokens after rest : List TokenKind) (rows : List Alternative) (k : TokenKind) → ends_well n depth tokens after rows ≡ true → is_in k after ≡ true
-    → Agree (look_at_front (tokens ++ k ∷ [])) (look_at_front (tokens ++ k ∷ rest)) rows → Quick rows tokens (tokens ++ k ∷ rest) depth
+    → Agree (look_of (tokens ++ k ∷ [])) (look_of (tokens ++ k ∷ rest)) rows → Quick rows tokens (tokens ++ k ∷ rest) depth
 quick_found n depth tokens after rest rows k h i agrees =
     let s = and_parts (row_is_quick n tokens rows && row_is_low depth n rows) (each_kind (λ j. opens n (tokens ++ j ∷ []) rows) after) h in
     let t = and_parts (row_is_quick n tokens rows) (row_is_low depth n rows) s.0 in
@@ -138,14 +135,12 @@ agree_same : (x : Look) (y : Look) (rows : List Alternative) → x.kind ≡ y.ki
 agree_same x y [] e f = agree_none
 agree_same x y (a ∷ more) e f = agree_more a more (ap (λ (k : TokenKind). holds k x.next a.at) e ∙ ap (λ (k : TokenKind). holds y.kind k a.at) f) (agree_same x y more e f)
 
-front_agrees : (j : TokenKind) (js : List TokenKind) (k : TokenKind) (rest : List TokenKind) (rows : List Alternative) → Agree (look_at_front (j ∷ js ++ k ∷ [])) (look_at_front (j ∷ js ++ k ∷ rest)) rows
-unfolding look_at_front
-front_agrees j [] k rest rows = agree_same (look_at_front (j ∷ k ∷ [])) (look_at_front (j ∷ k ∷ rest)) rows refl refl
-front_agrees j (i ∷ is) k rest rows = agree_same (look_at_front (j ∷ i ∷ is ++ k ∷ [])) (look_at_front (j ∷ i ∷ is ++ k ∷ rest)) rows refl refl
+front_agrees : (j : TokenKind) (js : List TokenKind) (k : TokenKind) (rest : List TokenKind) (rows : List Alternative) → Agree (look_of (j ∷ js ++ k ∷ [])) (look_of (j ∷ js ++ k ∷ rest)) rows
+front_agrees j [] k rest rows = agree_same (look_of (j ∷ k ∷ [])) (look_of (j ∷ k ∷ rest)) rows refl refl
+front_agrees j (i ∷ is) k rest rows = agree_same (look_of (j ∷ i ∷ is ++ k ∷ [])) (look_of (j ∷ i ∷ is ++ k ∷ rest)) rows refl refl
 
-group_agrees : (g : Group) (tokens : List TokenKind) (k : TokenKind) (rest : List TokenKind) → Agree (look_at_front (tokens ++ k ∷ [])) (look_at_front (tokens ++ k ∷ rest)) (group_rows g)
-unfolding look_at_front
-group_agrees g [] k rest = agree_plain (look_at_front (k ∷ [])) (look_at_front (k ∷ rest)) (group_rows g) refl (group_plain g)
+group_agrees : (g : Group) (tokens : List TokenKind) (k : TokenKind) (rest : List TokenKind) → Agree (look_of (tokens ++ k ∷ [])) (look_of (tokens ++ k ∷ rest)) (group_rows g)
+group_agrees g [] k rest = agree_plain (look_of (k ∷ [])) (look_of (k ∷ rest)) (group_rows g) refl (group_plain g)
 group_agrees g (j ∷ js) k rest = front_agrees j js k rest (group_rows g)
 
 rule_tokens : (r : Rule) → (j : TokenKind) × (js : List TokenKind) × (quick_rule r ≡ j ∷ js)
@@ -193,10 +188,10 @@ rule_tokens rule.Switch = (kind.KeywordSwitch, kind.LeftParen ∷ kind.Identifie
 rule_tokens rule.Prong = (kind.KeywordElse, kind.EqualAngleRight ∷ kind.Identifier ∷ [], refl)
 rule_tokens rule.Item = (kind.Identifier, [], refl)
 
-rule_agrees : (r : Rule) (k : TokenKind) (rest : List TokenKind) → Agree (look_at_front (quick_rule r ++ k ∷ [])) (look_at_front (quick_rule r ++ k ∷ rest)) (rule_rows r)
+rule_agrees : (r : Rule) (k : TokenKind) (rest : List TokenKind) → Agree (look_of (quick_rule r ++ k ∷ [])) (look_of (quick_rule r ++ k ∷ rest)) (rule_rows r)
 rule_agrees r k rest =
     let t = rule_tokens r in
-    subst (λ (l : List TokenKind). Agree (look_at_front (l ++ k ∷ [])) (look_at_front (l ++ k ∷ rest)) (rule_rows r)) (sym t.2) (front_agrees t.0 t.1 k rest (rule_rows r))
+    subst (λ (l : List TokenKind). Agree (look_of (l ++ k ∷ [])) (look_of (l ++ k ∷ rest)) (rule_rows r)) (sym t.2) (front_agrees t.0 t.1 k rest (rule_rows r))
 
 -- ---- a row of parts ends before a token
 

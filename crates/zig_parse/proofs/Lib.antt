@@ -30,3 +30,4 @@ pub mod Behind
 pub mod Endings
 pub mod EndingTests
 pub mod Completing
+pub mod Lively
