@@ -31,3 +31,4 @@ pub mod Endings
 pub mod EndingTests
 pub mod Completing
 pub mod Lively
+pub mod LivelyMoves

@@ -110,10 +110,10 @@ GoesOn read goal ps = (c end : List TokenKind) → Reads ps c end → Reads (goa
 abbrev pub GoesOnPlain : List TokenKind → Part → List Part → Type 0
 GoesOnPlain read goal ps = (c end : List TokenKind) → is_colon (next_kind c) ≡ false → Reads ps c end → Reads (goal ∷ []) (read ++ c) end
 
-abbrev GoesOnAt : TokenKind → List TokenKind → Part → List Part → Type 0
+abbrev pub GoesOnAt : TokenKind → List TokenKind → Part → List Part → Type 0
 GoesOnAt k read goal ps = (c end : List TokenKind) → Reads ps (k ∷ c) end → Reads (goal ∷ []) (read ++ k ∷ c) end
 
-abbrev GoesOnPlainAt : TokenKind → List TokenKind → Part → List Part → Type 0
+abbrev pub GoesOnPlainAt : TokenKind → List TokenKind → Part → List Part → Type 0
 GoesOnPlainAt k read goal ps = (c end : List TokenKind) → is_colon (next_kind c) ≡ false → Reads ps (k ∷ c) end → Reads (goal ∷ []) (read ++ k ∷ c) end
 
 -- each part may be followed by what ends the next ones
@@ -295,7 +295,7 @@ quiet_joined (p ∷ ps) qs h e =
     by true y k = refl
     by false y k = k
 
-shuts_rest : (p : Part) (ps : List Part) → shuts (p ∷ ps) ≡ true → shuts ps ≡ true
+pub shuts_rest : (p : Part) (ps : List Part) → shuts (p ∷ ps) ≡ true → shuts ps ≡ true
 shuts_rest p ps h = (and_parts (is_none ps || not (may_shut p)) (shuts ps) h).1
 
 none_is : (ps : List Part) → is_none ps ≡ true → ps ≡ []
@@ -309,10 +309,10 @@ shut_last p ps h e =
       | inr t ↦ (let wrong : not true ≡ true = ap not (sym e) ∙ t in absurd (cc))
     ]
 
-rule_shut : (r : Rule) (a : Alternative) (qs : List Part) → is_braced r ≡ false → Among a (rule_rows r) → shuts (part.Rule r ∷ qs) ≡ true → shuts (a.parts ++ qs) ≡ true
+pub rule_shut : (r : Rule) (a : Alternative) (qs : List Part) → is_braced r ≡ false → Among a (rule_rows r) → shuts (part.Rule r ∷ qs) ≡ true → shuts (a.parts ++ qs) ≡ true
 rule_shut r a qs b m h = quiet_joined a.parts qs (row_tested (λ (x : Alternative). quiet x.parts) a (rule_rows r) (rule_quiet r b) m) (shuts_rest (part.Rule r) qs h)
 
-group_shut : (g : Group) (a : Alternative) (qs : List Part) → has_braces g ≡ false → Among a (group_rows g) → shuts (part.Group g ∷ qs) ≡ true → shuts (a.parts ++ qs) ≡ true
+pub group_shut : (g : Group) (a : Alternative) (qs : List Part) → has_braces g ≡ false → Among a (group_rows g) → shuts (part.Group g ∷ qs) ≡ true → shuts (a.parts ++ qs) ≡ true
 group_shut g a qs b m h =
     elim (group_quiet g b) [
       | inl t ↦ quiet_joined a.parts qs (row_tested (λ (x : Alternative). quiet x.parts) a (group_rows g) t m) (shuts_rest (part.Group g) qs h)
@@ -337,13 +337,13 @@ ends_joined (p ∷ ps) qs k h e =
     let same : first_or (quick_all (ps ++ qs)) k ≡ first_or (quick_all ps) (first_or (quick_all qs) k) = ap (λ (l : List TokenKind). first_or l k) (quick_joined ps qs) ∙ first_joined (quick_all ps) (quick_all qs) k in
     and_from (may_follow (first_or (quick_all (ps ++ qs)) k) p) (ends_before k (ps ++ qs)) (ap (λ (j : TokenKind). may_follow j p) same ∙ s.0) (ends_joined ps qs k s.1 e)
 
-rule_ended : (goal : Part) (r : Rule) (a : Alternative) (qs : List Part) → Among a (rule_rows r) → Ended goal (part.Rule r ∷ qs) → Ended goal (a.parts ++ qs)
+pub rule_ended : (goal : Part) (r : Rule) (a : Alternative) (qs : List Part) → Among a (rule_rows r) → Ended goal (part.Rule r ∷ qs) → Ended goal (a.parts ++ qs)
 rule_ended goal r a qs m e k h =
     let s = and_parts (may_follow (first_or (quick_all qs) k) (part.Rule r)) (ends_before k qs) (e k h) in
     let j = first_or (quick_all qs) k in
     ends_joined a.parts qs k (kind_among (λ i. ends_before i a.parts) j (after_rule r) s.0 (row_tested (row_ends_before (after_rule r)) a (rule_rows r) (rule_rows_end r) m)) s.1
 
-group_ended : (goal : Part) (g : Group) (a : Alternative) (qs : List Part) → Among a (group_rows g) → Ended goal (part.Group g ∷ qs) → Ended goal (a.parts ++ qs)
+pub group_ended : (goal : Part) (g : Group) (a : Alternative) (qs : List Part) → Among a (group_rows g) → Ended goal (part.Group g ∷ qs) → Ended goal (a.parts ++ qs)
 group_ended goal g a qs m e k h =
     let s = and_parts (may_follow (first_or (quick_all qs) k) (part.Group g)) (ends_before k qs) (e k h) in
     let j = first_or (quick_all qs) k in
