@@ -44,6 +44,12 @@ pub mod Follows
 pub mod Paths
 pub mod PathSteps
 pub mod SurePaths
+pub mod Behind
+pub mod Endings
+pub mod EndingTests
+pub mod Completing
+pub mod Lively
+pub mod LivelyMoves
 pub mod SameParts
 pub mod Tidy
 pub mod Moving
