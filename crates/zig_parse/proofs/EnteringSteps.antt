@@ -14,7 +14,7 @@ use Rattle.zig_parse.specs.Moves.{next_move, settled_all, waits_for}
 use Rattle.zig_parse.specs.Passes.{any_waits, begun, begun_at, begun_for, depth_for, inside, least_from, own_height, those_waiting}
 use Rattle.zig_parse.specs.Surveys.{entered, entered_waiting}
 use Rattle.zig_parse.proofs.Derived.{no_longer}
-use Rattle.zig_parse.proofs.Ways.{Fork, noted}
+use Rattle.zig_parse.specs.Ways.{Fork, noted}
 use Rattle.zig_parse.proofs.Paths.{Path, path_ends, path_closes, path_rule, path_group, path_reads, path_waits, look_of, parts_of_items}
 use Rattle.zig_parse.proofs.Tidy.{tidy, tidy_no_brace, is_kind_same}
 use Rattle.zig_parse.proofs.Moving.{coming, Each, each_at, each_kept, met_part_keeps, read_keeps, reads_front, waits_front}

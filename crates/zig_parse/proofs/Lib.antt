@@ -24,7 +24,6 @@ pub mod Names
 pub mod CostTables
 pub mod Costs
 pub mod LastToken
-pub mod Ways
 pub mod Runs
 pub mod SpelledOnce
 pub mod Growing

@@ -22,7 +22,7 @@ use Rattle.zig_parse.specs.Passes.{begun, own_height}
 use Rattle.zig_parse.proofs.Derived.{each_row, row_tested, group_derived, no_longer, open_is_row, split_derived}
 use Rattle.zig_parse.proofs.Shapes.{row_fills}
 use Rattle.zig_parse.proofs.Balance.{reads_some}
-use Rattle.zig_parse.proofs.Ways.{Fork}
+use Rattle.zig_parse.specs.Ways.{Fork}
 use Rattle.zig_parse.proofs.Paths.{Path, look_of, parts_of_items}
 use Rattle.zig_parse.proofs.Tidy.{tidy, is_last, is_body, is_plain, is_closing, closer, Left, tidy_read}
 use Rattle.zig_parse.proofs.Moving.{coming, Each, each_kept, Comes, moving_come, settled_each, read_keeps, reads_front, fits_derives}

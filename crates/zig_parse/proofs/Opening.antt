@@ -22,7 +22,7 @@ use Rattle.zig_parse.specs.Moves.{next_move, waits_for}
 use Rattle.zig_parse.specs.Choices.{choices, matching}
 use Rattle.zig_parse.specs.Passes.{begun, own_height}
 use Rattle.zig_parse.proofs.Derived.{followed_nothing, joined_derived}
-use Rattle.zig_parse.proofs.Ways.{Fork, Taken, taken_sole, taken_first, taken_second, noted}
+use Rattle.zig_parse.specs.Ways.{Fork, Taken, taken_sole, taken_first, taken_second, noted}
 use Rattle.zig_parse.proofs.Paths.{Path, path_ends, path_closes, path_rule, path_group, path_reads, path_waits, look_of, parts_of_items, is_cons}
 use Rattle.zig_parse.proofs.Tidy.{tidy}
 use Rattle.zig_parse.proofs.Moving.{coming, rule_coming, group_coming, closed_keeps, met_part_keeps, read_keeps, received_keeps, rule_in_front, group_in_front, rule_comes, group_comes, Comes, Reading, Waiting, reads_front, waits_front, fits_derives}

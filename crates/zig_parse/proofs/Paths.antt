@@ -15,7 +15,7 @@ use Rattle.zig_parse.specs.Stack.{rest}
 use Rattle.zig_parse.specs.Threads.{after_read, closed, met_part, received, replaced, risen}
 use Rattle.zig_parse.specs.Moves.{next_move, waits_for}
 use Rattle.zig_parse.specs.Passes.{begun, own_height}
-use Rattle.zig_parse.proofs.Ways.{Fork, Taken, noted}
+use Rattle.zig_parse.specs.Ways.{Fork, Taken, noted}
 
 -- the kinds of the next two tokens
 abbrev pub look_of : List TokenKind → Look

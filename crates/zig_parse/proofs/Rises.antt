@@ -9,7 +9,7 @@ use Rattle.zig_tree.specs.GrammarSentences.{Pieces, nothing, node, makes_no_node
 use Rattle.zig_parse.specs.Threads.{one_more}
 use Rattle.zig_parse.proofs.Story.{height_followed}
 use Rattle.zig_parse.proofs.Calm.{taken_among}
-use Rattle.zig_parse.proofs.Ways.{Fork, Sure, sure_none, sure_token, sure_one_of, sure_group, sure_rule, sure_group_apart, sure_rule_apart}
+use Rattle.zig_parse.specs.Ways.{Fork, Sure, sure_none, sure_token, sure_one_of, sure_group, sure_rule, sure_group_apart, sure_rule_apart}
 
 pub among_sole : (rows : List Alternative) (a : Alternative) → rows ≡ a ∷ [] → Among a rows
 among_sole rows a e = subst (Among a) (sym e) (inl refl)

@@ -15,7 +15,7 @@ use Rattle.zig_parse.specs.Stack.{rest}
 use Rattle.zig_parse.specs.Threads.{closed, replaced}
 use Rattle.zig_parse.specs.Moves.{moving, moving_by, move_from, next_move, readers, reading_by, settled, settled_all, spread}
 use Rattle.zig_parse.specs.Choices.{choices}
-use Rattle.zig_parse.proofs.Ways.{Fork, Taken, taken_sole, taken_first, taken_second, noted}
+use Rattle.zig_parse.specs.Ways.{Fork, Taken, taken_sole, taken_first, taken_second, noted}
 use Rattle.zig_parse.proofs.Picks.{choices_as, parts_in}
 use Rattle.zig_parse.proofs.Costs.{total_work, moving_less, settled_one, settled_nothing}
 use Rattle.zig_parse.proofs.Paths.{Path, path_ends, path_closes, path_rule, path_group, path_reads, path_waits, is_cons, look_of, parts_of_items}

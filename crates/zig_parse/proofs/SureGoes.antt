@@ -26,7 +26,7 @@ use Rattle.zig_parse.proofs.TreeTables.{rule_led}
 use Rattle.zig_parse.proofs.Spelled.{here, look_here}
 use Rattle.zig_parse.proofs.Story.{left_from, piece_amount}
 use Rattle.zig_parse.proofs.Picks.{parts_in, choices_as}
-use Rattle.zig_parse.proofs.Ways.{Fork, Sure, Taken, noted, sure_none, sure_token, sure_one_of, sure_group, sure_rule, sure_group_apart, sure_rule_apart, taken_sole, taken_first, taken_second}
+use Rattle.zig_parse.specs.Ways.{Fork, Sure, Taken, noted, sure_none, sure_token, sure_one_of, sure_group, sure_rule, sure_group_apart, sure_rule_apart, taken_sole, taken_first, taken_second}
 use Rattle.zig_parse.proofs.Goes.{Goes, Picks, goes_none, goes_token, goes_group, goes_rule, kinds_length}
 
 -- ---- the marks

@@ -30,7 +30,7 @@ use Rattle.zig_parse.specs.Trees.{HoldsAll, Spells, kinds_of, spells_nothing}
 use Rattle.zig_parse.proofs.Derived.{followed_nothing, no_longer}
 use Rattle.zig_parse.proofs.Tokens.{all_read_end}
 use Rattle.zig_parse.proofs.Sound.{shut_is}
-use Rattle.zig_parse.proofs.Ways.{Fork, Sure, Taken, noted, sure_none, sure_token, sure_group, sure_rule, sure_group_apart, sure_rule_apart, taken_sole, taken_first, taken_second}
+use Rattle.zig_parse.specs.Ways.{Fork, Sure, Taken, noted, sure_none, sure_token, sure_group, sure_rule, sure_group_apart, sure_rule_apart, taken_sole, taken_first, taken_second}
 use Rattle.zig_parse.proofs.SpelledOnce.{spells_same}
 use Rattle.zig_parse.proofs.Runs.{run_read, run_whole, run_within}
 use Rattle.zig_parse.proofs.Growing.{Place, State, coming}

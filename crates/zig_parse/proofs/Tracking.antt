@@ -6,7 +6,7 @@ use Rattle.zig_parse.specs.declared.thread.Thread.{Thread}
 use Rattle.zig_parse.specs.declared.thread.Move.TheVariants as move
 use Rattle.zig_parse.specs.Threads.{after_read}
 use Rattle.zig_parse.specs.Moves.{next_move, settled_all}
-use Rattle.zig_parse.proofs.Ways.{Fork, noted}
+use Rattle.zig_parse.specs.Ways.{Fork, noted}
 use Rattle.zig_parse.proofs.Paths.{Path, look_of}
 use Rattle.zig_parse.proofs.Free.{own}
 use Rattle.zig_parse.proofs.Moving.{coming, Each, each_joined}

@@ -1,9 +1,5 @@
 // Laws of the grammar and of the function on lists that the parser computes. They have no code.
-<<<<<<< HEAD
-ghost use Rattle.zig_parse.specs.Laws.{ChosenIsSure, DerivedIsSentence, MovesSuffice, NeverBoth, OneReason, OneRefusal, OneTree, ReadsTree};
-=======
-ghost use Rattle.zig_parse.specs.Laws.{DerivedIsSentence, LastLook, LastUnexpected, MovesSuffice, NeverBoth, OneReason, OneRefusal, OneTree, ReadsTree};
->>>>>>> 78463c2c2043b8ced77ca77cd4e94e2e1b683a34
+ghost use Rattle.zig_parse.specs.Laws.{ChosenIsSure, DerivedIsSentence, LastLook, LastUnexpected, MovesSuffice, NeverBoth, OneReason, OneRefusal, OneTree, ReadsTree};
 
 /// A list of tokens has at most one tree.
 pub fn one_tree()
@@ -32,15 +28,14 @@ pub fn moves_suffice()
     ensures { MovesSuffice }
 {}
 
-<<<<<<< HEAD
 /// A tree that the tie-breaks choose is sure: where the second of two alternatives is taken, the first
 /// leads nowhere, with whatever comes after it in the same braces.
 pub fn chosen_is_sure()
     ensures { ChosenIsSure }
-=======
+{}
+
 /// What stands behind a token that is no identifier counts for no refusal of it.
 pub fn last_look()
     ensures verdict { LastLook }
     ensures unexpected { LastUnexpected }
->>>>>>> 78463c2c2043b8ced77ca77cd4e94e2e1b683a34
 {}

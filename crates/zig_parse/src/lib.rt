@@ -24,11 +24,7 @@ mod thread;
 
 pub use fault::SyntaxFault;
 pub use laws::{
-<<<<<<< HEAD
-    chosen_is_sure, derived_is_sentence, moves_suffice, one_answer, one_tree, tree_is_derived,
-=======
-    derived_is_sentence, last_look, moves_suffice, one_answer, one_tree, tree_is_derived,
->>>>>>> 78463c2c2043b8ced77ca77cd4e94e2e1b683a34
+    chosen_is_sure, derived_is_sentence, last_look, moves_suffice, one_answer, one_tree, tree_is_derived,
 };
 pub use parser::parse;
 
