@@ -197,11 +197,11 @@ closed_comes tokens t =
     }
 
 -- a choice of the thread's own changes nothing
-chosen_move : (look : Look) (at : ℕ) (t : Thread) (m : Move) → next_move look true t ≡ m → next_move look true (at_choice at t) ≡ m
+pub chosen_move : (look : Look) (at : ℕ) (t : Thread) (m : Move) → next_move look true t ≡ m → next_move look true (at_choice at t) ≡ m
 unfolding next_move
 chosen_move look at t m h = h
 
-spread_each : (P : Thread → Type 0) (at : ℕ) (r : Option Rule) (rows : List Alternative) (t : Thread)
+pub spread_each : (P : Thread → Type 0) (at : ℕ) (r : Option Rule) (rows : List Alternative) (t : Thread)
     → ((a : Alternative) → Among a rows → P (replaced r a.parts t) × P (replaced r a.parts (at_choice at t))) → Each P (spread at r (parts_in rows) t)
 unfolding spread
 spread_each P at r [] t f = tt
