@@ -60,3 +60,4 @@ pub mod Living
 pub mod Tracking
 pub mod Entering
 pub mod EnteringSteps
+pub mod Lasting
