@@ -193,7 +193,7 @@ ready_waits waiting read look t p r w =
     by (inl s) is brace c end d = subst (λ (k : TokenKind). Reads (t.goal ∷ []) (read ++ k ∷ c) end) is (s c end (subst (λ (k : TokenKind). Reads (coming t) (k ∷ c) end) (sym is) d))
     by (inr s) is brace c end d = absurd (no_identifier look.kind brace s.0)
 
-waiting_all : (waiting : List (List Thread)) (read : List TokenKind) (look : Look) (ts : List Thread) → Each (Ready waiting read look) ts → Each (Waits waiting read) (those_waiting ts)
+pub waiting_all : (waiting : List (List Thread)) (read : List TokenKind) (look : Look) (ts : List Thread) → Each (Ready waiting read look) ts → Each (Waits waiting read) (those_waiting ts)
 unfolding those_waiting
 waiting_all waiting read look [] h = tt
 waiting_all waiting read look (t ∷ ts) h = by (waits_for t) refl (waiting_all waiting read look ts h.1)
@@ -213,7 +213,7 @@ wanted_by w goal None e h = absurd (cc)
 wanted_by w goal (Some p) e h = e ∙ ap (λ (q : Part). Some q) (same_part p goal h)
 
 -- where a depth is found for a part, a thread wants it
-least_wanted : (least : Option ℕ) (goal : Part) (ts : List Thread) → (least ≡ None) → (d : ℕ) → least_from least goal ts ≡ Some d → (w : Thread) × In w ts × (waits_for w ≡ Some goal)
+pub least_wanted : (least : Option ℕ) (goal : Part) (ts : List Thread) → (least ≡ None) → (d : ℕ) → least_from least goal ts ≡ Some d → (w : Thread) × In w ts × (waits_for w ≡ Some goal)
 unfolding least_from wants
 least_wanted least goal [] none d h = absurd (let wrong : None ≡ Some d = sym none ∙ h in cc)
 least_wanted least goal (t ∷ ts) none d h = by (wants t goal) refl (λ e. least_wanted least goal ts none d (sym (ap (λ (b : Bool). least_from (if b then Some (least_with (depth_for t) least) else least) goal ts) e) ∙ h))

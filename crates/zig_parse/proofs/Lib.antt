@@ -61,3 +61,4 @@ pub mod Tracking
 pub mod Entering
 pub mod EnteringSteps
 pub mod Lasting
+pub mod LastingSteps
