@@ -62,3 +62,4 @@ pub mod Entering
 pub mod EnteringSteps
 pub mod Lasting
 pub mod LastingSteps
+pub mod LastingEnds

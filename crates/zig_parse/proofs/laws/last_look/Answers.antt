@@ -1,4 +1,4 @@
-use Rattle.zig_parse.proofs.LastingSteps.{lasts_next}
+use Rattle.zig_parse.proofs.LastingEnds.{some_ends}
 use Rattle.zig_parse.proofs.Behind.{last_look, last_unexpected}
 use Rattle.zig_parse.proofs.laws.last_look.Goals as goal
 
