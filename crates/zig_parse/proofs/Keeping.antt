@@ -64,7 +64,7 @@ future_same a b h =
 
 -- ---- threads are kept one after the other
 
-pub keep_all : List Thread → List Thread → List Thread
+unfoldable pub keep_all : List Thread → List Thread → List Thread
 keep_all kept [] = kept
 keep_all kept (t ∷ ts) = keep_all (kept_with kept t) ts
 
@@ -140,15 +140,15 @@ token_as kept (t ∷ ts) = token_as (kept_with kept (after_read t)) ts
 
 -- ---- those that go on after a brace
 
-pub goes_on : Thread → Option Finished → List Thread
+unfoldable pub goes_on : Thread → Option Finished → List Thread
 goes_on t None = []
 goes_on t (Some f) = with_choices f.choices (received f.height t) ∷ []
 
-pub goes_on_by : List Finished → Thread → Option Part → List Thread
+unfoldable pub goes_on_by : List Finished → Thread → Option Part → List Thread
 goes_on_by found t None = []
 goes_on_by found t (Some p) = goes_on t (result_for found p)
 
-pub all_go_on : List Finished → List Thread → List Thread
+unfoldable pub all_go_on : List Finished → List Thread → List Thread
 all_go_on found [] = []
 all_go_on found (t ∷ ts) = goes_on_by found t (waits_for t) ++ all_go_on found ts
 

@@ -37,3 +37,4 @@ pub mod Living
 pub mod Tracking
 pub mod Entering
 pub mod EnteringSteps
+pub mod Leaving
