@@ -35,7 +35,7 @@ use Rattle.zig_parse.proofs.Settling.{Dead}
 use Rattle.zig_parse.proofs.Keeping.{keep_all, keep_each, keeps_it, Kept, token_as, resumed_as, all_go_on, goes_on_by, goes_on, go_on_joined}
 use Rattle.zig_parse.proofs.Living.{Around, at_root, in_brace, Good, Gone, tidy_shorter}
 use Rattle.zig_parse.proofs.Tracking.{Tracked, AtToken}
-use Rattle.zig_parse.proofs.Entering.{each_front, part_is}
+use Rattle.zig_parse.proofs.Entering.{each_both, each_front, part_is}
 
 -- ---- the token is read
 
@@ -509,3 +509,55 @@ go_on low total at k more live ds x before after inner told waiting p from mid i
         fine = off_fine low (at + 1) w_told (resumed found [] those) keeps.before keeps.after y live_now y_hears y_shallow;
       };
     }
+
+-- ---- both
+
+brace_root : (root : Bool) (k : TokenKind) → k ≡ closer root → k ≡ kind.RightBrace → root ≡ false
+brace_root true k e h = let x : kind.End ≡ kind.RightBrace = sym e ∙ h in absurd (cc)
+brace_root false k e h = refl
+
+in_place : (look : Look) (live : List Thread) (waiting : List (List Thread)) → is_kind look.kind kind.RightBrace ≡ false → (left look live waiting ≡ live) × (left_waiting look live waiting ≡ waiting)
+unfolding left left_waiting is_closed
+in_place look live waiting h = (rw h refl, rw h refl)
+
+outwards : (look : Look) (live those : List Thread) (waiting others : List (List Thread)) → is_closed look live ≡ true → waiting ≡ those ∷ others → (left look live waiting ≡ resumed (map finished live) [] those) × (left_waiting look live waiting ≡ others)
+unfolding left left_waiting
+outwards look live those waiting others h e = (rw (h, e) refl, rw (h, e) refl)
+
+leave_brace : (low : ℕ → Type 0) (total at : ℕ) (k : TokenKind) (more : List TokenKind) (live : List Thread) (waiting : List (List Thread)) (ds : List ℕ) (forks : List Fork)
+    → AfterToken low total at k more live waiting ds forks → is_kind k kind.RightBrace ≡ true → LeftOff low total at more (left (look_of (k ∷ more)) live waiting) (left_waiting (look_of (k ∷ more)) live waiting) ds forks
+leave_brace low total at k more live waiting ds forks t h =
+    let c = brace_closing k h in
+    let look = look_of (k ∷ more) in
+    let gone_live : Each (Gone t.root t.from k more) (t.before ++ t.x ∷ t.after) = subst (Each (Gone t.root t.from k more)) t.live_is t.gone in
+    let none_x = gone_none t.root t.from k more t.x c (each_at (Gone t.root t.from k more) t.before t.after t.x gone_live) in
+    let root = brace_root t.root k none_x.0 (same_kind k kind.RightBrace h) in
+    let done = path_done low t.told false t.x (at + 1) more t.end t.height t.inner (no_parts t.x.items none_x.1) t.path in
+    let none_all : Each (λ (y : Thread). y.items ≡ []) (t.before ++ t.x ∷ t.after) = each_kept (Gone t.root t.from k more) (λ (y : Thread). y.items ≡ []) (t.before ++ t.x ∷ t.after) (λ y g. no_parts y.items (gone_none t.root t.from k more y c g).1) gone_live in
+    let closed = spent_closed look live h (ap has_read_all t.live_is ∙ empty_all t.before t.after t.x none_all) in
+    let reads : Each (IsRead t.from t.end) live = each_kept (Gone t.root t.from k more) (IsRead t.from t.end) live (λ y g. subst (λ (l : List TokenKind). IsRead t.from l y) done.ended (gone_read t.root t.from k more y c g)) t.gone in
+    let both = each_both (Dead t.goal more t.end) (λ (y : Thread). y.items ≡ []) t.before t.dead (each_front (λ (y : Thread). y.items ≡ []) t.before (t.x ∷ t.after) none_all) in
+    let firsts : Each (λ (y : Thread). y.goal ≡ t.goal → ⊥) t.before = each_kept _ (λ (y : Thread). y.goal ≡ t.goal → ⊥) t.before
+    (λ y g e. g.0 e nothing (subst (λ (l : List Part). Derives l more t.end nothing) (ap parts_of_items (sym g.1)) (subst (λ (l : List TokenKind). Derives [] more l nothing) done.ended (derives_none more)))) both in
+    let on = go_on low total at k more live ds t.x t.before t.after t.inner t.told waiting t.goal t.from t.end t.height t.root t.cs t.outer t.around root t.live_is t.goal_is reads firsts done t.place t.choices_are forks t.forks_are in
+    let same = outwards look live on.those waiting on.others closed on.waiting_is in
+    subst (λ (l : List Thread). LeftOff low total at more l (left_waiting look live waiting) ds forks) (sym same.0)
+    (subst (λ (l : List (List Thread)). LeftOff low total at more (resumed (map finished live) [] on.those) l ds forks) (sym same.1) on.off)
+
+leave_not : (low : ℕ → Type 0) (total at : ℕ) (k : TokenKind) (more : List TokenKind) (live : List Thread) (waiting : List (List Thread)) (ds : List ℕ) (forks : List Fork)
+    → AfterToken low total at k more live waiting ds forks → is_kind k kind.RightBrace ≡ false → (b : Bool) → is_closing k ≡ b → LeftOff low total at more live waiting ds forks
+leave_not low total at k more live waiting ds forks t h true e = finish low total at k more live waiting ds forks t e h
+leave_not low total at k more live waiting ds forks t h false e = stay low total at k more live waiting ds forks t e
+
+leave_by : (low : ℕ → Type 0) (total at : ℕ) (k : TokenKind) (more : List TokenKind) (live : List Thread) (waiting : List (List Thread)) (ds : List ℕ) (forks : List Fork)
+    → AfterToken low total at k more live waiting ds forks → (b : Bool) → is_kind k kind.RightBrace ≡ b → LeftOff low total at more (left (look_of (k ∷ more)) live waiting) (left_waiting (look_of (k ∷ more)) live waiting) ds forks
+leave_by low total at k more live waiting ds forks t true h = leave_brace low total at k more live waiting ds forks t h
+leave_by low total at k more live waiting ds forks t false h =
+    let look = look_of (k ∷ more) in
+    let same = in_place look live waiting h in
+    subst (λ (l : List Thread). LeftOff low total at more l (left_waiting look live waiting) ds forks) (sym same.0)
+    (subst (λ (l : List (List Thread)). LeftOff low total at more live l ds forks) (sym same.1) (leave_not low total at k more live waiting ds forks t h (is_closing k) refl))
+
+pub leave_path : (low : ℕ → Type 0) (total at : ℕ) (k : TokenKind) (more : List TokenKind) (live : List Thread) (waiting : List (List Thread)) (ds : List ℕ) (forks : List Fork)
+    → AfterToken low total at k more live waiting ds forks → LeftOff low total at more (left (look_of (k ∷ more)) live waiting) (left_waiting (look_of (k ∷ more)) live waiting) ds forks
+leave_path low total at k more live waiting ds forks t = leave_by low total at k more live waiting ds forks t (is_kind k kind.RightBrace) refl

@@ -38,3 +38,4 @@ pub mod Tracking
 pub mod Entering
 pub mod EnteringSteps
 pub mod Leaving
+pub mod Marks
