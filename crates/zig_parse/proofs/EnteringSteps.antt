@@ -90,7 +90,7 @@ enter_reads low falls total at k more live ready waiting ds forks t r w =
       shallow = on.shallow;
       gone = each_kept _ (λ (y : Thread). Gone t.root t.from k more (after_read y)) ready (λ y g. read_gone t.root t.from k more y g.0 g.1) both;
       dead = each_kept _ (λ (y : Thread). Dead t.goal more t.end (after_read y)) r.before (λ y g. read_dead t.root t.from k more t.end t.goal y g.0.0 g.0.1 g.1)
-      (each_both _ (Dead t.goal tokens t.end) r.before (each_front _ r.before (r.x ∷ r.after) (subst (Each _) r.ready_is both)) r.dead);
+          (each_both _ (Dead t.goal tokens t.end) r.before (each_front _ r.before (r.x ∷ r.after) (subst (Each _) r.ready_is both)) r.dead);
       hears = hears_later low falls t.told at (at + 1) (omega arith) t.hears;
       around = t.around;
       choices_are = ap (chosen_with at r.news) t.choices_are ∙ chosen_front at r.news t.x.choices t.cs ∙ ap (λ (l : List ℕ). l ++ t.cs) (sym r.choices_are);
@@ -103,7 +103,7 @@ enter_reads low falls total at k more live ready waiting ds forks t r w =
       few = r.few;
       forks_were = t.forks_are ∙ ap (λ (l : List Fork). l ++ t.outer) r.forks_are ∙ append_assoc (noted tokens r.news) r.later t.outer;
       now = subst (λ (l : List Thread). AtToken low total at k more l (entered_waiting ready waiting) (chosen_with at r.news ds) (r.later ++ t.outer)) (sym same.0)
-      (subst (λ (l : List (List Thread)). AtToken low total at k more ready l (chosen_with at r.news ds) (r.later ++ t.outer)) (sym same.1) now);
+          (subst (λ (l : List (List Thread)). AtToken low total at k more ready l (chosen_with at r.news ds) (r.later ++ t.outer)) (sym same.1) now);
     }
 
 -- ---- a brace begins
@@ -195,9 +195,9 @@ enter_waits low falls total at more live ready waiting ds forks t r mid inner_he
       later = inner ++ (outer ++ t.outer);
       few = r.few;
       forks_were = t.forks_are ∙ ap (λ (l : List Fork). l ++ t.outer) (r.forks_are ∙ ap (λ (l : List Fork). noted tokens r.news ++ l) later_is)
-      ∙ append_assoc (noted tokens r.news) (inner ++ outer) t.outer ∙ ap (λ (l : List Fork). noted tokens r.news ++ l) (append_assoc inner outer t.outer);
+          ∙ append_assoc (noted tokens r.news) (inner ++ outer) t.outer ∙ ap (λ (l : List Fork). noted tokens r.news ++ l) (append_assoc inner outer t.outer);
       now = subst (λ (l : List Thread). AtToken low total at kind.LeftBrace more l (entered_waiting ready waiting) (chosen_with at r.news ds) (inner ++ (outer ++ t.outer))) (sym same.0)
-      (subst (λ (l : List (List Thread)). AtToken low total at kind.LeftBrace more (inside look those) l (chosen_with at r.news ds) (inner ++ (outer ++ t.outer))) (sym same.1) now);
+          (subst (λ (l : List (List Thread)). AtToken low total at kind.LeftBrace more (inside look those) l (chosen_with at r.news ds) (inner ++ (outer ++ t.outer))) (sym same.1) now);
     }
 
 -- ---- both

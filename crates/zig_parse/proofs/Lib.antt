@@ -39,3 +39,4 @@ pub mod Entering
 pub mod EnteringSteps
 pub mod Leaving
 pub mod Marks
+pub mod Following
