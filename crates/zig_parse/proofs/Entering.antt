@@ -132,7 +132,7 @@ least_some n goal (t ∷ ts) =
     by (wants t goal) some other
   where
     by : (b : Bool) → (d : ℕ) × (least_from (Some (min (depth_for t) n)) goal ts ≡ Some d) × (d ≤ min (depth_for t) n) → (d : ℕ) × (least_from (Some n) goal ts ≡ Some d) × (d ≤ n)
-      → (d : ℕ) × (least_from (if b then Some (least_with (depth_for t) (Some n)) else Some n) goal ts ≡ Some d) × (d ≤ n)
+        → (d : ℕ) × (least_from (if b then Some (least_with (depth_for t) (Some n)) else Some n) goal ts ≡ Some d) × (d ≤ n)
     by true s o = (s.0, s.1, (let l = s.2 in omega arith))
     by false s o = o
 
@@ -206,8 +206,8 @@ inside_at P look ts p x five_body e f =
       after = rest;
       is = ap (λ (l : List Thread). block ++ (initializer ++ (l ++ rest))) e ∙ sym (append_assoc block initializer (x ∷ rest));
       others = each_joined (P goal) block initializer
-      (begun_each (P goal) look (part.Rule rule.Block) (least_from None (part.Rule rule.Block) ts) (λ d. f goal (part.Rule rule.Block) d five_block (λ h. cc)))
-      (begun_each (P goal) look (part.Rule rule.Initializer) (least_from None (part.Rule rule.Initializer) ts) (λ d. f goal (part.Rule rule.Initializer) d five_initializer (λ h. cc)));
+          (begun_each (P goal) look (part.Rule rule.Block) (least_from None (part.Rule rule.Block) ts) (λ d. f goal (part.Rule rule.Block) d five_block (λ h. cc)))
+          (begun_each (P goal) look (part.Rule rule.Initializer) (least_from None (part.Rule rule.Initializer) ts) (λ d. f goal (part.Rule rule.Initializer) d five_initializer (λ h. cc)));
     }
 inside_at P look ts p x five_errors e f =
     let goal = part.Group group.ErrorBraces in
@@ -220,10 +220,10 @@ inside_at P look ts p x five_errors e f =
       after = rest;
       is = ap (λ (l : List Thread). block ++ (initializer ++ (body ++ (l ++ rest)))) e ∙ ap (λ (l : List Thread). block ++ l) (sym (append_assoc initializer body (x ∷ rest))) ∙ sym (append_assoc block (initializer ++ body) (x ∷ rest));
       others = each_joined (P goal) block (initializer ++ body)
-      (begun_each (P goal) look (part.Rule rule.Block) (least_from None (part.Rule rule.Block) ts) (λ d. f goal (part.Rule rule.Block) d five_block (λ h. cc)))
-      (each_joined (P goal) initializer body
-      (begun_each (P goal) look (part.Rule rule.Initializer) (least_from None (part.Rule rule.Initializer) ts) (λ d. f goal (part.Rule rule.Initializer) d five_initializer (λ h. cc)))
-      (begun_each (P goal) look (part.Rule rule.ContainerBody) (least_from None (part.Rule rule.ContainerBody) ts) (λ d. f goal (part.Rule rule.ContainerBody) d five_body (λ h. cc))));
+          (begun_each (P goal) look (part.Rule rule.Block) (least_from None (part.Rule rule.Block) ts) (λ d. f goal (part.Rule rule.Block) d five_block (λ h. cc)))
+          (each_joined (P goal) initializer body
+          (begun_each (P goal) look (part.Rule rule.Initializer) (least_from None (part.Rule rule.Initializer) ts) (λ d. f goal (part.Rule rule.Initializer) d five_initializer (λ h. cc)))
+          (begun_each (P goal) look (part.Rule rule.ContainerBody) (least_from None (part.Rule rule.ContainerBody) ts) (λ d. f goal (part.Rule rule.ContainerBody) d five_body (λ h. cc))));
     }
 inside_at P look ts p x five_switch e f =
     let goal = part.Group group.SwitchBraces in
@@ -235,14 +235,14 @@ inside_at P look ts p x five_switch e f =
       before = block ++ (initializer ++ (body ++ errors));
       after = [];
       is = ap (λ (l : List Thread). block ++ (initializer ++ (body ++ (errors ++ l)))) e
-      ∙ ap (λ (l : List Thread). block ++ (initializer ++ l)) (sym (append_assoc body errors (x ∷ []))) ∙ ap (λ (l : List Thread). block ++ l) (sym (append_assoc initializer (body ++ errors) (x ∷ []))) ∙ sym (append_assoc block (initializer ++ (body ++ errors)) (x ∷ []));
+          ∙ ap (λ (l : List Thread). block ++ (initializer ++ l)) (sym (append_assoc body errors (x ∷ []))) ∙ ap (λ (l : List Thread). block ++ l) (sym (append_assoc initializer (body ++ errors) (x ∷ []))) ∙ sym (append_assoc block (initializer ++ (body ++ errors)) (x ∷ []));
       others = each_joined (P goal) block (initializer ++ (body ++ errors))
-      (begun_each (P goal) look (part.Rule rule.Block) (least_from None (part.Rule rule.Block) ts) (λ d. f goal (part.Rule rule.Block) d five_block (λ h. cc)))
-      (each_joined (P goal) initializer (body ++ errors)
-      (begun_each (P goal) look (part.Rule rule.Initializer) (least_from None (part.Rule rule.Initializer) ts) (λ d. f goal (part.Rule rule.Initializer) d five_initializer (λ h. cc)))
-      (each_joined (P goal) body errors
-      (begun_each (P goal) look (part.Rule rule.ContainerBody) (least_from None (part.Rule rule.ContainerBody) ts) (λ d. f goal (part.Rule rule.ContainerBody) d five_body (λ h. cc)))
-      (begun_each (P goal) look (part.Group group.ErrorBraces) (least_from None (part.Group group.ErrorBraces) ts) (λ d. f goal (part.Group group.ErrorBraces) d five_errors (λ h. cc)))));
+          (begun_each (P goal) look (part.Rule rule.Block) (least_from None (part.Rule rule.Block) ts) (λ d. f goal (part.Rule rule.Block) d five_block (λ h. cc)))
+          (each_joined (P goal) initializer (body ++ errors)
+          (begun_each (P goal) look (part.Rule rule.Initializer) (least_from None (part.Rule rule.Initializer) ts) (λ d. f goal (part.Rule rule.Initializer) d five_initializer (λ h. cc)))
+          (each_joined (P goal) body errors
+          (begun_each (P goal) look (part.Rule rule.ContainerBody) (least_from None (part.Rule rule.ContainerBody) ts) (λ d. f goal (part.Rule rule.ContainerBody) d five_body (λ h. cc)))
+          (begun_each (P goal) look (part.Group group.ErrorBraces) (least_from None (part.Group group.ErrorBraces) ts) (λ d. f goal (part.Group group.ErrorBraces) d five_errors (λ h. cc)))));
     }
 
 -- ---- a path whose thread reads a token

@@ -90,7 +90,7 @@ enter_reads low falls total at k more live ready waiting ds forks t r w =
       shallow = on.shallow;
       gone = each_kept _ (λ (y : Thread). Gone t.root t.from k more (after_read y)) ready (λ y g. read_gone t.root t.from k more y g.0 g.1) both;
       dead = each_kept _ (λ (y : Thread). Dead t.goal more t.end (after_read y)) r.before (λ y g. read_dead t.root t.from k more t.end t.goal y g.0.0 g.0.1 g.1)
-      (each_both _ (Dead t.goal tokens t.end) r.before (each_front _ r.before (r.x ∷ r.after) (subst (Each _) r.ready_is both)) r.dead);
+          (each_both _ (Dead t.goal tokens t.end) r.before (each_front _ r.before (r.x ∷ r.after) (subst (Each _) r.ready_is both)) r.dead);
       hears = hears_later low falls t.told at (at + 1) (omega arith) t.hears;
       around = t.around;
       choices_are = ap (chosen_with at r.news) t.choices_are ∙ chosen_front at r.news t.x.choices t.cs ∙ ap (λ (l : List ℕ). l ++ t.cs) (sym r.choices_are);
@@ -103,7 +103,7 @@ enter_reads low falls total at k more live ready waiting ds forks t r w =
       few = r.few;
       forks_were = t.forks_are ∙ ap (λ (l : List Fork). l ++ t.outer) r.forks_are ∙ append_assoc (noted tokens r.news) r.later t.outer;
       now = subst (λ (l : List Thread). AtToken low total at k more l (entered_waiting ready waiting) (chosen_with at r.news ds) (r.later ++ t.outer)) (sym same.0)
-      (subst (λ (l : List (List Thread)). AtToken low total at k more ready l (chosen_with at r.news ds) (r.later ++ t.outer)) (sym same.1) now);
+          (subst (λ (l : List (List Thread)). AtToken low total at k more ready l (chosen_with at r.news ds) (r.later ++ t.outer)) (sym same.1) now);
     }
 
 -- ---- a brace begins
@@ -195,7 +195,63 @@ enter_waits low falls total at more live ready waiting ds forks t r mid inner_he
       later = inner ++ (outer ++ t.outer);
       few = r.few;
       forks_were = t.forks_are ∙ ap (λ (l : List Fork). l ++ t.outer) (r.forks_are ∙ ap (λ (l : List Fork). noted tokens r.news ++ l) later_is)
-      ∙ append_assoc (noted tokens r.news) (inner ++ outer) t.outer ∙ ap (λ (l : List Fork). noted tokens r.news ++ l) (append_assoc inner outer t.outer);
+          ∙ append_assoc (noted tokens r.news) (inner ++ outer) t.outer ∙ ap (λ (l : List Fork). noted tokens r.news ++ l) (append_assoc inner outer t.outer);
       now = subst (λ (l : List Thread). AtToken low total at kind.LeftBrace more l (entered_waiting ready waiting) (chosen_with at r.news ds) (inner ++ (outer ++ t.outer))) (sym same.0)
-      (subst (λ (l : List (List Thread)). AtToken low total at kind.LeftBrace more (inside look those) l (chosen_with at r.news ds) (inner ++ (outer ++ t.outer))) (sym same.1) now);
+          (subst (λ (l : List (List Thread)). AtToken low total at kind.LeftBrace more (inside look those) l (chosen_with at r.news ds) (inner ++ (outer ++ t.outer))) (sym same.1) now);
     }
+
+-- ---- both
+
+record WaitsOn (low : ℕ → Type 0) (told : Bool) (t : Thread) (at : ℕ) (k : TokenKind) (more end : List TokenKind) (height : ℕ) (forks : List Fork) : Type 0 where
+  p : Part
+  mid : List TokenKind
+  inner_height : ℕ
+  inner : List Fork
+  outer : List Fork
+  brace : k ≡ kind.LeftBrace
+  later_is : forks ≡ inner ++ outer
+  waits : waits_for t ≡ Some p
+  shallow : told ≡ true → low (at + 1) → (met_part p t).deep ≡ false
+  go : (depth : ℕ) (heard : Bool) → (heard ≡ true → (told ≡ true) × (depth ≤ (met_part p t).depth)) → Path true low heard false (begun (look_of (k ∷ more)) p depth) at (k ∷ more) mid inner_height inner
+  then_shallow : told ≡ true → low (at + (length (k ∷ more) - length mid)) → (received (own_height p inner_height) (met_part p t)).deep ≡ false
+  then_path : Path true low told false (received (own_height p inner_height) (met_part p t)) (at + (length (k ∷ more) - length mid)) mid end height outer
+
+waits_or : (low : ℕ → Type 0) (told calm : Bool) (t : Thread) (at : ℕ) (k : TokenKind) (more end : List TokenKind) (height : ℕ) (forks : List Fork) → length end < length (k ∷ more) → next_move (look_of (k ∷ more)) true t ≡ move.Read
+    → Path true low told calm t at (k ∷ more) end height forks → (waits_for t ≡ None) ⊎ WaitsOn low told t at k more end height forks
+waits_or low told calm t at k more end height forks l h (path_ends _ _ _ _ _ e) = absurd (omega arith)
+waits_or low told calm t at k more end height forks l h (path_closes _ _ _ _ _ _ _ _ g _) = absurd (let e : move.Read ≡ move.Close = sym h ∙ g in cc)
+waits_or low told calm t at k more end height forks l h (path_rule _ _ _ _ _ _ _ _ r _ _ g _ _ _) = absurd (let e : move.Read ≡ move.Rule r = sym h ∙ g in cc)
+waits_or low told calm t at k more end height forks l h (path_group _ _ _ _ _ _ _ _ r _ _ g _ _ _) = absurd (let e : move.Read ≡ move.Group r = sym h ∙ g in cc)
+waits_or low told calm t at k more end height forks l h (path_reads _ _ _ _ _ _ _ _ _ g v f path) = inl v
+waits_or low told calm t at k more end height forks l h (path_waits _ _ _ _ _ mid _ _ inner_height inner outer p _ g v f go s path) = inr (record {
+  p = p;
+  mid = mid;
+  inner_height = inner_height;
+  inner = inner;
+  outer = outer;
+  brace = refl;
+  later_is = refl;
+  waits = v;
+  shallow = f;
+  go = go;
+  then_shallow = s;
+  then_path = path;
+})
+
+enter_brace : (low : ℕ → Type 0) → ((n : ℕ) → low (n + 1) → low n) → (total at : ℕ) (k : TokenKind) (more : List TokenKind) (live ready : List Thread) (waiting : List (List Thread)) (ds : List ℕ) (forks : List Fork) → k ≡ kind.LeftBrace
+    → (t : Tracked low total at (k ∷ more) live waiting ds forks) → (r : Readied low at (k ∷ more) ready t.root t.goal t.from t.end t.height t.told t.x.choices t.inner) → WaitsOn low t.told r.x at k more t.end t.height r.later
+    → Entered low total at k more ready waiting ds forks
+enter_brace low falls total at k more live ready waiting ds forks e =
+    subst (λ (j : TokenKind). (t : Tracked low total at (j ∷ more) live waiting ds forks) → (r : Readied low at (j ∷ more) ready t.root t.goal t.from t.end t.height t.told t.x.choices t.inner) → WaitsOn low t.told r.x at j more t.end t.height r.later
+    → Entered low total at j more ready waiting ds forks) (sym e)
+    (λ t r on. enter_waits low falls total at more live ready waiting ds forks t r on.mid on.inner_height on.inner on.outer on.p on.later_is on.waits on.shallow on.go on.then_shallow on.then_path)
+
+pub enter_path : (low : ℕ → Type 0) → ((n : ℕ) → low (n + 1) → low n) → (total at : ℕ) (k : TokenKind) (more : List TokenKind) (live : List Thread) (waiting : List (List Thread)) (ds : List ℕ) (forks : List Fork)
+    → Tracked low total at (k ∷ more) live waiting ds forks → Entered low total at k more (settled_all (look_of (k ∷ more)) at live) waiting ds forks
+enter_path low falls total at k more live waiting ds forks t =
+    let ready = settled_all (look_of (k ∷ more)) at live in
+    let r = readied low total at (k ∷ more) live waiting ds forks t in
+    elim (waits_or low t.told r.calmer r.x at k more t.end t.height r.later t.shorter r.reads r.path) [
+      | inl none ↦ enter_reads low falls total at k more live ready waiting ds forks t r none
+      | inr on ↦ enter_brace low falls total at k more live ready waiting ds forks on.brace t r on
+    ]

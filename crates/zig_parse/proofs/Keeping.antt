@@ -64,7 +64,7 @@ future_same a b h =
 
 -- ---- threads are kept one after the other
 
-pub keep_all : List Thread → List Thread → List Thread
+unfoldable pub keep_all : List Thread → List Thread → List Thread
 keep_all kept [] = kept
 keep_all kept (t ∷ ts) = keep_all (kept_with kept t) ts
 

@@ -63,3 +63,6 @@ pub mod EnteringSteps
 pub mod Lasting
 pub mod LastingSteps
 pub mod LastingEnds
+pub mod Leaving
+pub mod Marks
+pub mod Following

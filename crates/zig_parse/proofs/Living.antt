@@ -161,8 +161,8 @@ read_gone root from k more y g w =
     let qs = parts_of_items (rest y.items) in
     record {
       sound = λ end p d. (let e = fits_derives s.p qs k more end p s.fits (subst (λ l. Derives (parts_of_items l) more end p) keep.0 d) in
-      let q = g.0.sound end (word k p) (subst (λ (l : List Part). Derives l (k ∷ more) end (word k p)) (sym s.first) e) in
-      (q.0, subst (λ (x : Part). Derives (x ∷ []) from end q.0) (sym keep.1) q.1));
+          let q = g.0.sound end (word k p) (subst (λ (l : List Part). Derives l (k ∷ more) end (word k p)) (sym s.first) e) in
+          (q.0, subst (λ (x : Part). Derives (x ∷ []) from end q.0) (sym keep.1) q.1));
       left = subst (λ l. Left root k (parts_of_items l)) (sym keep.0) (tidy_read root s.p qs k s.fits (subst (λ (l : List Part). tidy root l ≡ true) s.first g.0.tidies));
       rooted = λ e. keep.1 ∙ g.0.rooted e;
     }
@@ -201,7 +201,7 @@ begun_gone more p depth f =
     let same : coming (after_read b) ≡ body p = ap parts_of_items keep.0 ∙ sym (rest_parts b.items) ∙ ap rest o.first in
     record {
       sound = λ end q d. (let e = o.derives end (word kind.LeftBrace q) (fits_derives (part.Token kind.LeftBrace) (body p) kind.LeftBrace more end q refl (subst (λ (l : List Part). Derives l more end q) same d)) in
-      (e.0, subst (λ (x : Part). Derives (x ∷ []) whole end e.0) (sym (keep.1 ∙ o.own_goal)) e.1));
+          (e.0, subst (λ (x : Part). Derives (x ∷ []) whole end e.0) (sym (keep.1 ∙ o.own_goal)) e.1));
       left = inr (refl, subst (λ (l : List Part). tidy false l ≡ true) (sym same) o.body_tidy, λ e. some_body p f (sym same ∙ e));
       rooted = λ e. absurd (cc);
     }

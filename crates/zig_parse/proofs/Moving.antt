@@ -172,7 +172,7 @@ rule_comes tokens t r a h m =
     record {
       same_goal = rule_goal r a.parts t;
       back = λ end p d. (let s = split_derived a.parts qs tokens end p (subst (λ (l : List Part). Derives l tokens end p) (rule_coming r a.parts t) d) in
-      (followed (made r s.1) s.2, subst (λ (l : List Part). Derives l tokens end (followed (made r s.1) s.2)) (sym f.0) (derives_rule r a qs tokens s.0 end s.1 s.2 m s.4 s.5)));
+          (followed (made r s.1) s.2, subst (λ (l : List Part). Derives l tokens end (followed (made r s.1) s.2)) (sym f.0) (derives_rule r a qs tokens s.0 end s.1 s.2 m s.4 s.5)));
       tidies = λ root k. subst (λ (l : List Part). tidy root l ≡ true) (sym (rule_coming r a.parts t)) (rule_tidy root r a qs f.1 (open_is_row tokens a (rule_rows r) m) (subst (λ (l : List Part). tidy root l ≡ true) f.0 k));
     }
 
@@ -183,7 +183,7 @@ group_comes tokens t g a h m =
     record {
       same_goal = group_goal a.parts t;
       back = λ end p d. (let s = split_derived a.parts qs tokens end p (subst (λ (l : List Part). Derives l tokens end p) (group_coming a.parts t) d) in
-      (followed s.1 s.2, subst (λ (l : List Part). Derives l tokens end (followed s.1 s.2)) (sym f.0) (derives_group g a qs tokens s.0 end s.1 s.2 m s.4 s.5)));
+          (followed s.1 s.2, subst (λ (l : List Part). Derives l tokens end (followed s.1 s.2)) (sym f.0) (derives_group g a qs tokens s.0 end s.1 s.2 m s.4 s.5)));
       tidies = λ root k. subst (λ (l : List Part). tidy root l ≡ true) (sym (group_coming a.parts t)) (group_tidy root g a qs f.1 (open_is_row tokens a (group_rows g) m) (subst (λ (l : List Part). tidy root l ≡ true) f.0 k));
     }
 

@@ -87,27 +87,47 @@ alone_group g a tokens end q m d = (followed q nothing, derives_group g a [] tok
 pub opens : (tokens : List TokenKind) (p : Part) (depth : ℕ) → Five p → Opens tokens p depth
 unfolding begun choices matching rule_rows group_rows put opened fresh collapses next_move waits_for number_of is_braced
 opens tokens p depth five_block = record {
-  own_goal = refl; own_choices = refl; first = refl; body_tidy = refl; waits = refl;
+  own_goal = refl;
+  own_choices = refl;
+  first = refl;
+  body_tidy = refl;
+  waits = refl;
   reads = λ h. rw h refl;
   derives = λ end q d. alone_rule rule.Block (row (when.Always) (part.Token kind.LeftBrace ∷ body (part.Rule rule.Block))) tokens end q (inl refl) d;
 }
 opens tokens p depth five_initializer = record {
-  own_goal = refl; own_choices = refl; first = refl; body_tidy = refl; waits = refl;
+  own_goal = refl;
+  own_choices = refl;
+  first = refl;
+  body_tidy = refl;
+  waits = refl;
   reads = λ h. rw h refl;
   derives = λ end q d. alone_rule rule.Initializer (row (when.Always) (part.Token kind.LeftBrace ∷ body (part.Rule rule.Initializer))) tokens end q (inl refl) d;
 }
 opens tokens p depth five_body = record {
-  own_goal = refl; own_choices = refl; first = refl; body_tidy = refl; waits = refl;
+  own_goal = refl;
+  own_choices = refl;
+  first = refl;
+  body_tidy = refl;
+  waits = refl;
   reads = λ h. rw h refl;
   derives = λ end q d. alone_rule rule.ContainerBody (row (when.Always) (part.Token kind.LeftBrace ∷ body (part.Rule rule.ContainerBody))) tokens end q (inl refl) d;
 }
 opens tokens p depth five_errors = record {
-  own_goal = refl; own_choices = refl; first = refl; body_tidy = refl; waits = refl;
+  own_goal = refl;
+  own_choices = refl;
+  first = refl;
+  body_tidy = refl;
+  waits = refl;
   reads = λ h. rw h refl;
   derives = λ end q d. alone_group group.ErrorBraces (row (when.Always) (part.Token kind.LeftBrace ∷ body (part.Group group.ErrorBraces))) tokens end q (inl refl) d;
 }
 opens tokens p depth five_switch = record {
-  own_goal = refl; own_choices = refl; first = refl; body_tidy = refl; waits = refl;
+  own_goal = refl;
+  own_choices = refl;
+  first = refl;
+  body_tidy = refl;
+  waits = refl;
   reads = λ h. rw h refl;
   derives = λ end q d. alone_group group.SwitchBraces (row (when.Always) (part.Token kind.LeftBrace ∷ body (part.Group group.SwitchBraces))) tokens end q (inl refl) d;
 }
@@ -135,9 +155,11 @@ path_derives low told calm t at tokens end height forks (path_group _ _ _ _ _ _ 
     (group_comes tokens t g a h (taken_among _ tokens end (open_at tokens (group_rows g)) a choices k)).back end d.0 d.1
 path_derives low told calm t at tokens end height forks (path_reads _ _ _ _ k left _ _ _ h w f more) =
     let d = path_derives low told false (after_read t) (at + 1) left end height forks more in
-    let s = reads_front (look_of (k ∷ left)) t h w in
-    (word k d.0, subst (λ (l : List Part). Derives l (k ∷ left) end (word k d.0)) (sym s.first)
-    (fits_derives s.p (parts_of_items (rest t.items)) k left end d.0 s.fits (subst (λ l. Derives (parts_of_items l) left end d.0) (read_keeps t).0 d.1)))
+    let s = reads_front (look_of (k ∷ left)) t h w in (
+      word k d.0,
+      subst (λ (l : List Part). Derives l (k ∷ left) end (word k d.0)) (sym s.first)
+          (fits_derives s.p (parts_of_items (rest t.items)) k left end d.0 s.fits (subst (λ l. Derives (parts_of_items l) left end d.0) (read_keeps t).0 d.1)),
+    )
 path_derives low told calm t at tokens end height forks (path_waits _ _ _ _ left mid _ _ inner_height inner outer p ap_true h w f go g more) =
     let whole = kind.LeftBrace ∷ left in
     let x = met_part p t in
@@ -146,6 +168,8 @@ path_derives low told calm t at tokens end height forks (path_waits _ _ _ _ left
     let o = opens whole p 0 (apart_five p s.apart) in
     let i = path_derives low false false (begun (look_of whole) p 0) at whole mid inner_height inner (go 0 false (λ e. absurd (cc))) in
     let j = o.derives mid i.0 (subst (λ (l : List Part). Derives l whole mid i.0) o.first i.1) in
-    let same = (received_keeps (own_height p inner_height) x).0 ∙ ap rest (met_part_keeps p t).0 in
-    (followed j.0 d.0, subst (λ (l : List Part). Derives l whole end (followed j.0 d.0)) (sym s.first)
-    (joined_derived (p ∷ []) (parts_of_items (rest t.items)) whole mid end j.0 d.0 j.1 (subst (λ l. Derives (parts_of_items l) mid end d.0) same d.1)))
+    let same = (received_keeps (own_height p inner_height) x).0 ∙ ap rest (met_part_keeps p t).0 in (
+      followed j.0 d.0,
+      subst (λ (l : List Part). Derives l whole end (followed j.0 d.0)) (sym s.first)
+          (joined_derived (p ∷ []) (parts_of_items (rest t.items)) whole mid end j.0 d.0 j.1 (subst (λ l. Derives (parts_of_items l) mid end d.0) same d.1)),
+    )

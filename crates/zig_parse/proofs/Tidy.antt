@@ -303,9 +303,10 @@ edge_no : (k : TokenKind) → is_edge k ≡ false → (is_closing k ≡ false) �
 unfolding number_of
 edge_no k h =
     let a = or_no (is_kind kind.LeftBrace k) _ h in
-    let b = or_no (is_kind kind.RightBrace k) _ a.1 in
-    (or_from (is_kind k kind.RightBrace) (is_kind k kind.End) (flip k kind.RightBrace b.0) (flip k kind.End b.1),
-      λ e. (let yes : is_kind kind.LeftBrace k ≡ true = ap (is_kind kind.LeftBrace) e in let never : true ≡ false = sym yes ∙ a.0 in cc))
+    let b = or_no (is_kind kind.RightBrace k) _ a.1 in (
+      or_from (is_kind k kind.RightBrace) (is_kind k kind.End) (flip k kind.RightBrace b.0) (flip k kind.End b.1),
+      λ e. (let yes : is_kind kind.LeftBrace k ≡ true = ap (is_kind kind.LeftBrace) e in let never : true ≡ false = sym yes ∙ a.0 in cc),
+    )
   where
     or_no : (x y : Bool) → (x || y) ≡ false → (x ≡ false) × (y ≡ false)
     or_no true y h = absurd (cc)
@@ -355,12 +356,12 @@ plain_fits (part.OneOf c) k f h = by (is_edge k) refl
     by : (b : Bool) → is_edge k ≡ b → is_edge k ≡ false
     by false e = e
     by true e =
-      let no = first (has_kind c kind.LeftBrace) (has_kind c kind.RightBrace) (has_kind c kind.End) none in
-      absurd (elim (pick (is_kind kind.LeftBrace k) (is_kind kind.RightBrace k) (is_kind kind.End k) e) [
-        | inl x ↦ never _ (is_of kind.LeftBrace x) no.0
-        | inr (inl x) ↦ never _ (is_of kind.RightBrace x) no.1
-        | inr (inr x) ↦ never _ (is_of kind.End x) no.2
-      ])
+        let no = first (has_kind c kind.LeftBrace) (has_kind c kind.RightBrace) (has_kind c kind.End) none in
+        absurd (elim (pick (is_kind kind.LeftBrace k) (is_kind kind.RightBrace k) (is_kind kind.End k) e) [
+          | inl x ↦ never _ (is_of kind.LeftBrace x) no.0
+          | inr (inl x) ↦ never _ (is_of kind.RightBrace x) no.1
+          | inr (inr x) ↦ never _ (is_of kind.End x) no.2
+        ])
 plain_fits (part.Rule r) k f h = absurd f
 plain_fits (part.Group g) k f h = absurd f
 

@@ -102,8 +102,8 @@ readied low total at tokens live waiting ds forks t =
       later = s.later;
       calmer = s.calmer;
       ready_is = ap (settled_all look at) t.live_is ∙ settled_joined look at t.before (t.x ∷ t.after)
-      ∙ ap (λ (l : List Thread). front ++ l) (settled_joined look at (t.x ∷ []) t.after ∙ ap (λ (l : List Thread). l ++ back) s.found ∙ append_assoc s.before (s.x ∷ s.after) back)
-      ∙ sym (append_assoc front s.before (s.x ∷ (s.after ++ back)));
+          ∙ ap (λ (l : List Thread). front ++ l) (settled_joined look at (t.x ∷ []) t.after ∙ ap (λ (l : List Thread). l ++ back) s.found ∙ append_assoc s.before (s.x ∷ s.after) back)
+          ∙ sym (append_assoc front s.before (s.x ∷ (s.after ++ back)));
       goal_is = s.same_goal ∙ t.goal_is;
       path = s.path;
       reads = s.reads;
