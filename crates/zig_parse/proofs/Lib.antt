@@ -32,3 +32,14 @@ pub mod Follows
 pub mod Paths
 pub mod PathSteps
 pub mod SurePaths
+pub mod SameParts
+pub mod Tidy
+pub mod Moving
+pub mod Opening
+pub mod Free
+pub mod Settling
+pub mod Keeping
+pub mod Living
+pub mod Tracking
+pub mod Entering
+pub mod EnteringSteps
