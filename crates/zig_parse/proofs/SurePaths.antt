@@ -29,7 +29,7 @@ use Rattle.zig_parse.proofs.Spelled.{amount}
 use Rattle.zig_parse.proofs.Story.{group_keeps_led, made_one, one_amount, piece_amount}
 use Rattle.zig_parse.proofs.Ways.{Fork, Taken, taken_sole, noted, Sure, sure_none, sure_token, sure_one_of, sure_group, sure_rule, sure_group_apart, sure_rule_apart}
 use Rattle.zig_parse.proofs.Paths.{look_of, is_cons, Path, path_ends, path_waits}
-use Rattle.zig_parse.proofs.Depths.{words, words_followed, words_made, words_read, derived_full, shallow_fewer, Lies, lies_left, lies_made, IsLow, read_low}
+use Rattle.zig_parse.proofs.Depths.{shallow_some, shallow_tree, words, words_followed, words_made, words_read, derived_full, shallow_fewer, Lies, lies_left, lies_made, IsLow, read_low}
 use Rattle.zig_parse.proofs.Calm.{is_free, is_free_group, braces_not_free, lone_row_free, taken_among}
 use Rattle.zig_parse.proofs.Rises.{among_sole, sure_derives, rise_made, rise_made_low, rise_of, rise_low}
 use Rattle.zig_parse.proofs.Follows.{closes_none, closes_risen, Stands, Begins, met_frame, met_height, hard_frame, makes, new_frame, open_stands, shut_stands, shut_rise, received_shallow, received_stands}
@@ -378,15 +378,20 @@ taken_one later tokens end b a choices (taken_sole _) = (refl, refl)
 none_sure : (behind : List Part) (tokens next end : List TokenKind) (p : Pieces) (forks : List Fork) → Sure [] behind tokens next end p forks → (tokens ≡ next) × (p ≡ nothing) × (forks ≡ [])
 none_sure behind tokens next end p forks (sure_none _ _ _) = (refl, refl, refl)
 
--- how many tokens lie shallow in a tree
+-- the first so many tokens of a tree lie no deeper than 200
 abbrev pub low_in : Pieces → ℕ → Type 0
 low_in tree n = AreShallow (take n (token_depths 0 tree))
 
 low_lies : (tree : Pieces) → Lies (low_in tree) 0 0 tree
 low_lies tree n m e l = subst (λ (k : ℕ). AreShallow (take k (token_depths 0 tree))) (let same : m ≡ n = omega arith in same) l
 
-low_falls : (tree : Pieces) (n m : ℕ) → n ≤ m → low_in tree m → low_in tree n
+-- fewer of them do as well
+pub low_falls : (tree : Pieces) (n m : ℕ) → n ≤ m → low_in tree m → low_in tree n
 low_falls tree n m e l = shallow_fewer n m (token_depths 0 tree) e l
+
+-- and all of them do in a tree of no more than 200 nodes one in the other
+pub tree_low : (tree : Pieces) (n : ℕ) → height tree ≤ 200 → low_in tree n
+tree_low tree n h = shallow_some n (token_depths 0 tree) (shallow_tree 0 tree (omega arith))
 
 root_sole : (tokens : List TokenKind) (a : Alternative) → Taken [] tokens [] (open_at tokens (rule_rows rule.Root)) a [] → open_at tokens (rule_rows rule.Root) ≡ a ∷ []
 unfolding rule_rows
