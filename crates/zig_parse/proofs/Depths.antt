@@ -165,3 +165,20 @@ low_joined depth a b tall other (inl h) (inl k) = inl (omega (arith, h.0, k.0), 
 low_joined depth a b tall other (inl h) (inr k) = inr (omega (arith, h.1))
 low_joined depth a b tall other (inr h) (inl k) = inr (omega (arith, k.1))
 low_joined depth a b tall other (inr h) (inr k) = inr (omega arith)
+
+-- ---- trees that are low
+
+shallow_both : (xs ys : List ℕ) → AreShallow xs → AreShallow ys → AreShallow (xs ++ ys)
+shallow_both [] ys h k = k
+shallow_both (x ∷ xs) ys h k = (h.0, shallow_both xs ys h.1 k)
+
+pub shallow_tree : (depth : ℕ) (p : Pieces) → depth + height p ≤ 200 → AreShallow (token_depths depth p)
+shallow_tree depth nothing h = tt
+shallow_tree depth (word k more) h = (omega arith, shallow_tree depth more h)
+shallow_tree depth (node r inside more) h = shallow_both (token_depths (depth + 1) inside) (token_depths depth more) (shallow_tree (depth + 1) inside (omega arith)) (shallow_tree depth more (omega arith))
+
+pub shallow_some : (n : ℕ) (xs : List ℕ) → AreShallow xs → AreShallow (take n xs)
+shallow_some zero [] h = tt
+shallow_some zero (x ∷ xs) h = tt
+shallow_some (suc n) [] h = tt
+shallow_some (suc n) (x ∷ xs) h = (h.0, shallow_some n xs h.1)

@@ -76,7 +76,8 @@ pub record Stands (low : ℕ → Type 0) (told : Bool) (t : Thread) (at : ℕ) (
   pub lies : low at → IsLow depth (words had) (height had)
   pub tall : f.height ≤ height had
 
--- the same where the next piece begins: no node of one part alone that gains a second one
+-- The same where the next piece begins, which the innermost node gains: if that is a second piece of a node
+-- that would have been none, it is made one before
 pub record Begins (low : ℕ → Type 0) (told : Bool) (v : Thread) (at : ℕ) (f : Frame) (fs : List Frame) (had : Pieces) (lone is_node : Bool) (base depth : ℕ) : Type 0 where
   pub frames : v.frames ≡ f ∷ fs
   pub shallow : told ≡ true → low (at + 1) → v.deep ≡ false

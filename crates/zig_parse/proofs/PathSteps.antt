@@ -1,40 +1,44 @@
 -- The moves of a thread before it reads a token or waits at a brace: over a token, a group and a rule.
-use Rattle.std.proofs.Common.{◌≡◌, ℕ, suc, ◌+◌, ◌-◌, ◌<◌, ◌≤◌, Bool, true, false, ◌&&◌, ◌||◌, ◌⊎◌, inl, inr, List, [], ◌∷◌, ◌++◌, map, length, take, Some, None, refl, sym, ◌∙◌, ap, subst, arith, append_assoc, append-nil}
+use Rattle.std.proofs.Common.{◌≡◌, ℕ, suc, ◌+◌, ◌<◌, ◌≤◌, Bool, true, false, ◌&&◌, ◌||◌, ◌⊎◌, inl, inr, List, [], ◌∷◌, ◌++◌, map, length, Some, None, refl, sym, ◌∙◌, ap, subst, arith, append_assoc, append-nil}
 use Rattle.std.specs.Prelude.{max, if◌then◌else◌, not, nat_lt}
-use Rattle.std.proofs.lemmas.Bool.{and_parts, lt-ltb, le-ltb, eq-eqb}
+use Rattle.std.proofs.lemmas.Bool.{and_parts, lt-ltb, le-ltb}
 use Rattle.zig_tree.specs.declared.token.TokenKind.{TokenKind}
-use Rattle.zig_tree.specs.declared.token.TokenKind.TheVariants.{LeftBrace, RightBrace}
+use Rattle.zig_tree.specs.declared.token.TokenKind.TheVariants.{LeftBrace}
 use Rattle.zig_tree.specs.declared.grammar.Rule.{Rule}
-use Rattle.zig_tree.specs.declared.grammar.Rule.TheVariants as rule
 use Rattle.zig_tree.specs.declared.grammar.Group.{Group}
-use Rattle.zig_tree.specs.declared.grammar.Group.TheVariants as group
 use Rattle.zig_tree.specs.declared.grammar.Part.{Part}
 use Rattle.zig_tree.specs.declared.grammar.Part.TheVariants as part
-use Rattle.zig_tree.specs.Kinds.{is_kind, number_of}
+use Rattle.zig_tree.specs.Kinds.{is_kind}
 use Rattle.zig_tree.specs.Grammar.{Alternative, group_rows, rule_rows}
-use Rattle.zig_tree.specs.GrammarSentences.{Pieces, nothing, word, followed, makes_no_node_alone, is_one_node, made, open_at, Among, Derives, height, token_depths, AreShallow, next_kind}
+use Rattle.zig_tree.specs.GrammarSentences.{Pieces, nothing, word, followed, makes_no_node_alone, is_one_node, made, open_at, Among, Derives, height, next_kind}
 use Rattle.zig_parse.specs.declared.thread.Frame.{Frame}
 use Rattle.zig_parse.specs.declared.thread.Item.{Item}
 use Rattle.zig_parse.specs.declared.thread.Thread.{Thread}
 use Rattle.zig_parse.specs.declared.thread.Move.TheVariants as move
 use Rattle.zig_parse.specs.Stack.{rest}
-use Rattle.zig_parse.specs.Threads.{after_read, closed, fresh, hardened, surround, has_braces, is_deep, is_apart, is_braced, is_never_alone, item, met, met_from, met_part, one_more, opened, part_height, passed, put, received, replaced, risen, touched_from, with_part}
+use Rattle.zig_parse.specs.Threads.{after_read, closed, hardened, has_braces, is_deep, is_apart, is_braced, is_never_alone, item, met, met_from, opened, passed, put, replaced, touched_from, with_part}
 use Rattle.zig_parse.specs.Moves.{apart_from, move_at, move_from, next_move, reading, waits_for}
-use Rattle.zig_parse.specs.Passes.{begun, begun_by, enclosed, own_height}
-use Rattle.zig_parse.proofs.Picks.{choices_as, parts_in}
 use Rattle.zig_parse.proofs.Derived.{followed_nothing, followed_twice, open_is_row, row_tested}
-use Rattle.zig_parse.proofs.Shapes.{count, fills, has_piece, is_led, row_fills, row_has_piece, row_led}
+use Rattle.zig_parse.proofs.Shapes.{count, has_piece, is_led, row_fills, row_has_piece, row_led}
 use Rattle.zig_parse.proofs.Tables.{rule_filled}
 use Rattle.zig_parse.proofs.TreeTables.{lone_filled, rule_led}
 use Rattle.zig_parse.proofs.Balance.{reads_some}
 use Rattle.zig_parse.proofs.Spelled.{amount}
 use Rattle.zig_parse.proofs.Story.{amount_followed, group_keeps_led, led_first, led_rest, made_one, one_amount, piece_amount, several, worded}
+<<<<<<< HEAD
 use Rattle.zig_parse.specs.Ways.{Fork, Taken, taken_sole, noted, Sure, sure_none, sure_token, sure_one_of, sure_group, sure_rule, sure_group_apart, sure_rule_apart}
 use Rattle.zig_parse.proofs.Paths.{look_of, parts_of_items, is_cons, Path, path_ends, path_closes, path_rule, path_group, path_reads, path_waits}
 use Rattle.zig_parse.proofs.Depths.{words, words_followed, words_made, words_read, derived_full, full_made, shallow_fewer, Lies, lies_left, lies_right, lies_made, IsLow, next_low, read_low}
 use Rattle.zig_parse.proofs.Calm.{is_calm_rule, starts_calm, rule_forks, group_forks, fork_starts, calm_starts, is_free, is_free_group, braces_not_free, lone_row_free, group_row_free, taken_among}
 use Rattle.zig_parse.proofs.Rises.{among_sole, sure_derives, rise_made, rise_made_low, rise_of, rise_low}
 use Rattle.zig_parse.proofs.Follows.{Closes, closes_none, closes_one, closes_items, closes_risen, closes_fewer, Stands, Begins, met_begins, met_frame, met_height, hard_frame, makes, new_frame, open_stands, shut_stands, shut_rise, read_stands, read_shallow, received_shallow, received_stands}
+=======
+use Rattle.zig_parse.proofs.Ways.{Fork, Taken, noted}
+use Rattle.zig_parse.proofs.Paths.{look_of, parts_of_items, is_cons, Path, path_closes, path_rule, path_group, path_reads}
+use Rattle.zig_parse.proofs.Depths.{words, words_followed, words_made, words_read, derived_full, full_made, Lies, lies_left, lies_right, lies_made, IsLow, next_low, read_low}
+use Rattle.zig_parse.proofs.Calm.{is_calm_rule, starts_calm, rule_forks, group_forks, fork_starts, calm_starts, is_free, is_free_group, lone_row_free, group_row_free, taken_among}
+use Rattle.zig_parse.proofs.Follows.{Closes, closes_none, closes_one, closes_items, closes_fewer, Stands, Begins, met_begins, met_frame, hard_frame, makes, new_frame, open_stands, read_stands, read_shallow}
+>>>>>>> 64a47896a41eeed4462fa661a70492032b4b43bd
 
 -- ---- what a thread does next
 

@@ -1,7 +1,7 @@
 -- Where parts derive tokens in a way that is sure, a thread has a path: over what stands in braces, and over a whole sentence.
-use Rattle.std.proofs.Common.{◌≡◌, ℕ, suc, ◌+◌, ◌-◌, ◌<◌, ◌≤◌, Bool, true, false, ◌&&◌, ◌||◌, ◌⊎◌, inl, inr, List, [], ◌∷◌, ◌++◌, map, length, take, Some, None, refl, sym, ◌∙◌, ap, subst, arith, append_assoc, append-nil}
-use Rattle.std.specs.Prelude.{max, if◌then◌else◌, not, nat_lt}
-use Rattle.std.proofs.lemmas.Bool.{and_parts, lt-ltb, le-ltb, eq-eqb}
+use Rattle.std.proofs.Common.{◌≡◌, ℕ, suc, ◌+◌, ◌-◌, ◌<◌, ◌≤◌, Bool, true, false, ◌&&◌, ◌||◌, inl, inr, List, [], ◌∷◌, ◌++◌, map, length, take, Some, None, refl, sym, ◌∙◌, ap, subst, arith, append_assoc, append-nil}
+use Rattle.std.specs.Prelude.{max, if◌then◌else◌}
+use Rattle.std.proofs.lemmas.Bool.{and_parts, eq-eqb}
 use Rattle.zig_tree.specs.declared.token.TokenKind.{TokenKind}
 use Rattle.zig_tree.specs.declared.token.TokenKind.TheVariants.{LeftBrace, RightBrace}
 use Rattle.zig_tree.specs.declared.grammar.Rule.{Rule}
@@ -12,29 +12,35 @@ use Rattle.zig_tree.specs.declared.grammar.Part.{Part}
 use Rattle.zig_tree.specs.declared.grammar.Part.TheVariants as part
 use Rattle.zig_tree.specs.Kinds.{is_kind, number_of}
 use Rattle.zig_tree.specs.Grammar.{Alternative, group_rows, rule_rows}
-use Rattle.zig_tree.specs.GrammarSentences.{Pieces, nothing, word, followed, makes_no_node_alone, is_one_node, made, open_at, Among, Derives, height, token_depths, AreShallow, next_kind}
+use Rattle.zig_tree.specs.GrammarSentences.{Pieces, nothing, word, followed, makes_no_node_alone, made, open_at, Among, Derives, height, token_depths, AreShallow, next_kind}
 use Rattle.zig_parse.specs.declared.thread.Frame.{Frame}
 use Rattle.zig_parse.specs.declared.thread.Item.{Item}
 use Rattle.zig_parse.specs.declared.thread.Thread.{Thread}
 use Rattle.zig_parse.specs.declared.thread.Move.TheVariants as move
 use Rattle.zig_parse.specs.Stack.{rest}
-use Rattle.zig_parse.specs.Threads.{after_read, closed, fresh, hardened, surround, has_braces, is_deep, is_apart, is_braced, is_never_alone, item, met, met_from, met_part, one_more, opened, part_height, passed, put, received, replaced, risen, touched_from, with_part}
-use Rattle.zig_parse.specs.Moves.{apart_from, move_at, move_from, next_move, reading, waits_for}
+use Rattle.zig_parse.specs.Threads.{after_read, fresh, surround, has_braces, is_braced, item, met, met_part, one_more, opened, part_height, passed, put, received, replaced, risen, with_part}
+use Rattle.zig_parse.specs.Moves.{next_move, reading, waits_for}
 use Rattle.zig_parse.specs.Passes.{begun, begun_by, enclosed, own_height}
 use Rattle.zig_parse.proofs.Picks.{choices_as, parts_in}
-use Rattle.zig_parse.proofs.Derived.{followed_nothing, followed_twice, open_is_row, row_tested}
-use Rattle.zig_parse.proofs.Shapes.{count, fills, has_piece, is_led, row_fills, row_has_piece, row_led}
-use Rattle.zig_parse.proofs.Tables.{rule_filled}
-use Rattle.zig_parse.proofs.TreeTables.{lone_filled, rule_led}
+use Rattle.zig_parse.proofs.Derived.{followed_nothing, followed_twice, open_is_row}
+use Rattle.zig_parse.proofs.Shapes.{count, fills, has_piece, is_led}
 use Rattle.zig_parse.proofs.Balance.{reads_some}
 use Rattle.zig_parse.proofs.Spelled.{amount}
+<<<<<<< HEAD
 use Rattle.zig_parse.proofs.Story.{amount_followed, group_keeps_led, led_first, led_rest, made_one, one_amount, piece_amount, several, worded}
 use Rattle.zig_parse.specs.Ways.{Fork, Taken, taken_sole, noted, Sure, sure_none, sure_token, sure_one_of, sure_group, sure_rule, sure_group_apart, sure_rule_apart}
 use Rattle.zig_parse.proofs.Paths.{look_of, parts_of_items, is_cons, Path, path_ends, path_closes, path_rule, path_group, path_reads, path_waits}
 use Rattle.zig_parse.proofs.Depths.{words, words_followed, words_made, words_read, derived_full, full_made, shallow_fewer, Lies, lies_left, lies_right, lies_made, IsLow, next_low, read_low}
 use Rattle.zig_parse.proofs.Calm.{is_calm_rule, starts_calm, rule_forks, group_forks, fork_starts, calm_starts, is_free, is_free_group, braces_not_free, lone_row_free, group_row_free, taken_among}
+=======
+use Rattle.zig_parse.proofs.Story.{group_keeps_led, made_one, one_amount, piece_amount}
+use Rattle.zig_parse.proofs.Ways.{Fork, Taken, taken_sole, noted, Sure, sure_none, sure_token, sure_one_of, sure_group, sure_rule, sure_group_apart, sure_rule_apart}
+use Rattle.zig_parse.proofs.Paths.{look_of, is_cons, Path, path_ends, path_waits}
+use Rattle.zig_parse.proofs.Depths.{shallow_some, shallow_tree, words, words_followed, words_made, words_read, derived_full, shallow_fewer, Lies, lies_left, lies_made, IsLow, read_low}
+use Rattle.zig_parse.proofs.Calm.{is_free, is_free_group, braces_not_free, lone_row_free, taken_among}
+>>>>>>> 64a47896a41eeed4462fa661a70492032b4b43bd
 use Rattle.zig_parse.proofs.Rises.{among_sole, sure_derives, rise_made, rise_made_low, rise_of, rise_low}
-use Rattle.zig_parse.proofs.Follows.{Closes, closes_none, closes_one, closes_items, closes_risen, closes_fewer, Stands, Begins, met_begins, met_frame, met_height, hard_frame, makes, new_frame, open_stands, shut_stands, shut_rise, read_stands, read_shallow, received_shallow, received_stands}
+use Rattle.zig_parse.proofs.Follows.{closes_none, closes_risen, Stands, Begins, met_frame, met_height, hard_frame, makes, new_frame, open_stands, shut_stands, shut_rise, received_shallow, received_stands}
 use Rattle.zig_parse.proofs.PathSteps.{next_is, waits_some, met_items, Goes, goes_as, none_path, token_ready, token_path, rest_is, group_ready, after_group, first_item, from_closed, group_path, some_words, lone_some, rule_begins, rule_within, inner_lead, rule_ready, made_lies, after_rule, rule_path, Ready}
 
 -- ---- what stands in braces
@@ -380,15 +386,20 @@ taken_one later tokens end b a choices (taken_sole _) = (refl, refl)
 none_sure : (behind : List Part) (tokens next end : List TokenKind) (p : Pieces) (forks : List Fork) → Sure [] behind tokens next end p forks → (tokens ≡ next) × (p ≡ nothing) × (forks ≡ [])
 none_sure behind tokens next end p forks (sure_none _ _ _) = (refl, refl, refl)
 
--- how many tokens lie shallow in a tree
+-- the first so many tokens of a tree lie no deeper than 200
 abbrev pub low_in : Pieces → ℕ → Type 0
 low_in tree n = AreShallow (take n (token_depths 0 tree))
 
 low_lies : (tree : Pieces) → Lies (low_in tree) 0 0 tree
 low_lies tree n m e l = subst (λ (k : ℕ). AreShallow (take k (token_depths 0 tree))) (let same : m ≡ n = omega arith in same) l
 
-low_falls : (tree : Pieces) (n m : ℕ) → n ≤ m → low_in tree m → low_in tree n
+-- fewer of them do as well
+pub low_falls : (tree : Pieces) (n m : ℕ) → n ≤ m → low_in tree m → low_in tree n
 low_falls tree n m e l = shallow_fewer n m (token_depths 0 tree) e l
+
+-- and all of them do in a tree of no more than 200 nodes one in the other
+pub tree_low : (tree : Pieces) (n : ℕ) → height tree ≤ 200 → low_in tree n
+tree_low tree n h = shallow_some n (token_depths 0 tree) (shallow_tree 0 tree (omega arith))
 
 root_sole : (tokens : List TokenKind) (a : Alternative) → Taken [] tokens [] (open_at tokens (rule_rows rule.Root)) a [] → open_at tokens (rule_rows rule.Root) ≡ a ∷ []
 unfolding rule_rows
