@@ -28,7 +28,7 @@ use Rattle.zig_parse.specs.Growth.{is_second}
 use Rattle.zig_parse.specs.Trees.{kinds_of}
 use Rattle.zig_parse.proofs.Spelled.{look_here}
 use Rattle.zig_parse.proofs.Derived.{no_longer}
-use Rattle.zig_parse.proofs.Ways.{Fork, noted}
+use Rattle.zig_parse.specs.Ways.{Fork, noted}
 use Rattle.zig_parse.proofs.Paths.{Path, look_of, parts_of_items}
 use Rattle.zig_parse.proofs.Tidy.{tidy}
 use Rattle.zig_parse.proofs.Free.{own, path_own}

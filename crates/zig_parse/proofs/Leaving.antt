@@ -24,7 +24,7 @@ use Rattle.zig_parse.specs.Passes.{after_token, all_deep, finished, is_among, ke
 use Rattle.zig_parse.specs.Surveys.{left, left_waiting}
 use Rattle.zig_parse.proofs.Derived.{joined_derived}
 use Rattle.zig_parse.proofs.Tables.{same_kind}
-use Rattle.zig_parse.proofs.Ways.{Fork}
+use Rattle.zig_parse.specs.Ways.{Fork}
 use Rattle.zig_parse.proofs.Paths.{Path, path_ends, path_closes, path_rule, path_group, path_reads, path_waits, look_of, parts_of_items}
 use Rattle.zig_parse.proofs.SameParts.{same_part}
 use Rattle.zig_parse.proofs.Tidy.{tidy, is_closing, closer, is_kind_same, tidy_apart}

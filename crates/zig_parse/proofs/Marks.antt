@@ -5,7 +5,7 @@ use Rattle.std.proofs.lemmas.Bool.{eqb-true, eqb-false}
 use Rattle.zig_tree.specs.declared.token.TokenKind.{TokenKind}
 use Rattle.zig_parse.specs.Growth.{is_second}
 use Rattle.zig_parse.specs.Passes.{marked}
-use Rattle.zig_parse.proofs.Ways.{Fork, noted}
+use Rattle.zig_parse.specs.Ways.{Fork, noted}
 use Rattle.zig_parse.proofs.Settling.{chosen_with}
 
 set_length : (m : List Bool) (at : ℕ) (b : Bool) → length (slice_set m at b) ≡ length m

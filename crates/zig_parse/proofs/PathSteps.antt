@@ -25,20 +25,11 @@ use Rattle.zig_parse.proofs.TreeTables.{lone_filled, rule_led}
 use Rattle.zig_parse.proofs.Balance.{reads_some}
 use Rattle.zig_parse.proofs.Spelled.{amount}
 use Rattle.zig_parse.proofs.Story.{amount_followed, group_keeps_led, led_first, led_rest, made_one, one_amount, piece_amount, several, worded}
-<<<<<<< HEAD
-use Rattle.zig_parse.specs.Ways.{Fork, Taken, taken_sole, noted, Sure, sure_none, sure_token, sure_one_of, sure_group, sure_rule, sure_group_apart, sure_rule_apart}
-use Rattle.zig_parse.proofs.Paths.{look_of, parts_of_items, is_cons, Path, path_ends, path_closes, path_rule, path_group, path_reads, path_waits}
-use Rattle.zig_parse.proofs.Depths.{words, words_followed, words_made, words_read, derived_full, full_made, shallow_fewer, Lies, lies_left, lies_right, lies_made, IsLow, next_low, read_low}
-use Rattle.zig_parse.proofs.Calm.{is_calm_rule, starts_calm, rule_forks, group_forks, fork_starts, calm_starts, is_free, is_free_group, braces_not_free, lone_row_free, group_row_free, taken_among}
-use Rattle.zig_parse.proofs.Rises.{among_sole, sure_derives, rise_made, rise_made_low, rise_of, rise_low}
-use Rattle.zig_parse.proofs.Follows.{Closes, closes_none, closes_one, closes_items, closes_risen, closes_fewer, Stands, Begins, met_begins, met_frame, met_height, hard_frame, makes, new_frame, open_stands, shut_stands, shut_rise, read_stands, read_shallow, received_shallow, received_stands}
-=======
-use Rattle.zig_parse.proofs.Ways.{Fork, Taken, noted}
+use Rattle.zig_parse.specs.Ways.{Fork, Taken, noted}
 use Rattle.zig_parse.proofs.Paths.{look_of, parts_of_items, is_cons, Path, path_closes, path_rule, path_group, path_reads}
 use Rattle.zig_parse.proofs.Depths.{words, words_followed, words_made, words_read, derived_full, full_made, Lies, lies_left, lies_right, lies_made, IsLow, next_low, read_low}
 use Rattle.zig_parse.proofs.Calm.{is_calm_rule, starts_calm, rule_forks, group_forks, fork_starts, calm_starts, is_free, is_free_group, lone_row_free, group_row_free, taken_among}
 use Rattle.zig_parse.proofs.Follows.{Closes, closes_none, closes_one, closes_items, closes_fewer, Stands, Begins, met_begins, met_frame, hard_frame, makes, new_frame, open_stands, read_stands, read_shallow}
->>>>>>> 64a47896a41eeed4462fa661a70492032b4b43bd
 
 -- ---- what a thread does next
 

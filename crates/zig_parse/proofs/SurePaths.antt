@@ -26,19 +26,11 @@ use Rattle.zig_parse.proofs.Derived.{followed_nothing, followed_twice, open_is_r
 use Rattle.zig_parse.proofs.Shapes.{count, fills, has_piece, is_led}
 use Rattle.zig_parse.proofs.Balance.{reads_some}
 use Rattle.zig_parse.proofs.Spelled.{amount}
-<<<<<<< HEAD
-use Rattle.zig_parse.proofs.Story.{amount_followed, group_keeps_led, led_first, led_rest, made_one, one_amount, piece_amount, several, worded}
-use Rattle.zig_parse.specs.Ways.{Fork, Taken, taken_sole, noted, Sure, sure_none, sure_token, sure_one_of, sure_group, sure_rule, sure_group_apart, sure_rule_apart}
-use Rattle.zig_parse.proofs.Paths.{look_of, parts_of_items, is_cons, Path, path_ends, path_closes, path_rule, path_group, path_reads, path_waits}
-use Rattle.zig_parse.proofs.Depths.{words, words_followed, words_made, words_read, derived_full, full_made, shallow_fewer, Lies, lies_left, lies_right, lies_made, IsLow, next_low, read_low}
-use Rattle.zig_parse.proofs.Calm.{is_calm_rule, starts_calm, rule_forks, group_forks, fork_starts, calm_starts, is_free, is_free_group, braces_not_free, lone_row_free, group_row_free, taken_among}
-=======
 use Rattle.zig_parse.proofs.Story.{group_keeps_led, made_one, one_amount, piece_amount}
-use Rattle.zig_parse.proofs.Ways.{Fork, Taken, taken_sole, noted, Sure, sure_none, sure_token, sure_one_of, sure_group, sure_rule, sure_group_apart, sure_rule_apart}
+use Rattle.zig_parse.specs.Ways.{Fork, Taken, taken_sole, noted, Sure, sure_none, sure_token, sure_one_of, sure_group, sure_rule, sure_group_apart, sure_rule_apart}
 use Rattle.zig_parse.proofs.Paths.{look_of, is_cons, Path, path_ends, path_waits}
 use Rattle.zig_parse.proofs.Depths.{shallow_some, shallow_tree, words, words_followed, words_made, words_read, derived_full, shallow_fewer, Lies, lies_left, lies_made, IsLow, read_low}
 use Rattle.zig_parse.proofs.Calm.{is_free, is_free_group, braces_not_free, lone_row_free, taken_among}
->>>>>>> 64a47896a41eeed4462fa661a70492032b4b43bd
 use Rattle.zig_parse.proofs.Rises.{among_sole, sure_derives, rise_made, rise_made_low, rise_of, rise_low}
 use Rattle.zig_parse.proofs.Follows.{closes_none, closes_risen, Stands, Begins, met_frame, met_height, hard_frame, makes, new_frame, open_stands, shut_stands, shut_rise, received_shallow, received_stands}
 use Rattle.zig_parse.proofs.PathSteps.{next_is, waits_some, met_items, Goes, goes_as, none_path, token_ready, token_path, rest_is, group_ready, after_group, first_item, from_closed, group_path, some_words, lone_some, rule_begins, rule_within, inner_lead, rule_ready, made_lies, after_rule, rule_path, Ready}
