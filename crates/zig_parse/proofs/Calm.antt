@@ -16,7 +16,8 @@ use Rattle.zig_tree.specs.Grammar.{Alternative, group_rows, holds, rule_rows}
 use Rattle.zig_tree.specs.GrammarSentences.{makes_no_node_alone, next_kind, second_kind, with_shared, open_at, Among}
 use Rattle.zig_parse.specs.Choices.{is_shared}
 use Rattle.zig_parse.proofs.Derived.{each_row, row_tested, open_is_row}
-use Rattle.zig_parse.specs.Ways.{Taken, taken_sole, taken_first, taken_second, has_braces}
+use Rattle.zig_parse.specs.Threads.{has_braces}
+use Rattle.zig_parse.specs.Ways.{Taken, taken_sole, taken_first, taken_second}
 
 -- ---- up to the next token with no choice
 

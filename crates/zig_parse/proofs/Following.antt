@@ -69,10 +69,10 @@ step_path low falls total at k more s ds forks t =
 
 -- ---- one thread alone
 
-record Alone (low : ℕ → Type 0) (total at : ℕ) (tokens : List TokenKind) (live : List Thread) (waiting : List (List Thread)) (ds : List ℕ) (forks : List Fork) (marks : List Bool) : Type 0 where
-  es : List ℕ
-  state : Tracked low total at tokens (alone live) waiting es forks
-  same : marked es (marked_alone live marks) ≡ marked ds marks
+pub record Alone (low : ℕ → Type 0) (total at : ℕ) (tokens : List TokenKind) (live : List Thread) (waiting : List (List Thread)) (ds : List ℕ) (forks : List Fork) (marks : List Bool) : Type 0 where
+  pub es : List ℕ
+  pub state : Tracked low total at tokens (alone live) waiting es forks
+  pub same : marked es (marked_alone live marks) ≡ marked ds marks
 
 only : (t x : Thread) (before after : List Thread) → t ∷ [] ≡ before ++ x ∷ after → (before ≡ []) × (x ≡ t)
 only t x [] [] e = (refl, cc)
@@ -83,7 +83,7 @@ only t x (u ∷ v ∷ before) after e = absurd (cc)
 own_good : (root : Bool) (from tokens : List TokenKind) (t : Thread) (cs : List ℕ) → Good root from tokens t → Good root from tokens (own cs t)
 own_good root from tokens t cs g = record { sound = g.sound; tidies = g.tidies; rooted = g.rooted }
 
-alone_path : (low : ℕ → Type 0) (total at : ℕ) (tokens : List TokenKind) (live : List Thread) (waiting : List (List Thread)) (ds : List ℕ) (forks : List Fork) (marks : List Bool)
+pub alone_path : (low : ℕ → Type 0) (total at : ℕ) (tokens : List TokenKind) (live : List Thread) (waiting : List (List Thread)) (ds : List ℕ) (forks : List Fork) (marks : List Bool)
     → Tracked low total at tokens live waiting ds forks → Alone low total at tokens live waiting ds forks marks
 alone_path low total at tokens [] waiting ds forks marks t = absurd (none t.before t.x t.after t.live_is)
   where
@@ -129,10 +129,10 @@ alone_path low total at tokens (u ∷ []) waiting ds forks marks t =
 abbrev pub Looks : List Token → ℕ → ℕ → List TokenKind → Type 0
 Looks tokens at n kinds = (i : ℕ) → i < n → look_at tokens (at + i) ≡ look_of (drop i kinds)
 
-looks_next : (tokens : List Token) (at n : ℕ) (k : TokenKind) (kinds : List TokenKind) → Looks tokens at (suc n) (k ∷ kinds) → Looks tokens (at + 1) n kinds
+pub looks_next : (tokens : List Token) (at n : ℕ) (k : TokenKind) (kinds : List TokenKind) → Looks tokens at (suc n) (k ∷ kinds) → Looks tokens (at + 1) n kinds
 looks_next tokens at n k kinds h i l = ap (look_at tokens) (omega arith) ∙ h (suc i) (omega arith)
 
-looks_here : (tokens : List Token) (at n : ℕ) (kinds : List TokenKind) → Looks tokens at (suc n) kinds → look_at tokens at ≡ look_of kinds
+pub looks_here : (tokens : List Token) (at n : ℕ) (kinds : List TokenKind) → Looks tokens at (suc n) kinds → look_at tokens at ≡ look_of kinds
 looks_here tokens at n kinds h = ap (look_at tokens) (omega arith) ∙ h 0 (omega arith)
 
 pub record Surveyed (total n at : ℕ) (tokens : List Token) (s : State) (marks ds_marks : List Bool) (forks : List Fork) : Type 0 where
@@ -161,7 +161,7 @@ verdict_is : (look : Look) (at : ℕ) (s : State) → next_verdict look at s ≡
 unfolding next_verdict
 verdict_is look at s = refl
 
-state_live : (look : Look) (at : ℕ) (s : State) → (next_state look at s).live ≡ alone (next_live look at s)
+pub state_live : (look : Look) (at : ℕ) (s : State) → (next_state look at s).live ≡ alone (next_live look at s)
 unfolding next_state
 state_live look at s = refl
 
@@ -183,8 +183,29 @@ back_to total n at tokens s marks ds forks kinds news later found new place few 
   agree = subst (Agree total found) (sym were) (agree_noted total at kinds news later found few place (early at (omega arith) ∙ k.here) agree);
 }
 
+judged_ok : (v : Verdict) (r : Result (List Bool) SyntaxFault) (k : TokenKind) (at : ℕ) (f : List Bool) → judged v r k at ≡ Ok f → v ≡ verdict.Fine
+judged_ok verdict.Fine r k at f h = refl
+judged_ok verdict.Unexpected r k at f h = absurd (cc)
+judged_ok verdict.TooDeep r k at f h = absurd (cc)
+
+-- the path lies within the limit of depth, or the first pass accepts all the same
+abbrev pub Accepts : (ℕ → Type 0) → ℕ → ℕ → ℕ → List Token → State → List Bool → Type 0
+Accepts low total n at tokens s marks = low total ⊎ ((f : List Bool) × (surveyed n at tokens s marks ≡ Ok f))
+
+fine_here : (low : ℕ → Type 0) → ((n : ℕ) → low (n + 1) → low n) → (total n at : ℕ) (tokens : List Token) (s : State) (marks : List Bool) (look : Look) → at < total → look_at tokens at ≡ look → (low (at + 1) → next_verdict look at s ≡ verdict.Fine)
+    → Accepts low total (suc n) at tokens s marks → next_verdict look at s ≡ verdict.Fine
+unfolding surveyed
+fine_here low falls total n at tokens s marks look l e fine (inl lows) = fine (falls_to low falls (at + 1) total (omega arith) lows)
+fine_here low falls total n at tokens s marks look l e fine (inr h) =
+    ap (λ (x : Look). next_verdict x at s) (sym e)
+    ∙ judged_ok (next_verdict (look_at tokens at) at s) (surveyed n (at + 1) tokens (next_state (look_at tokens at) at s) (next_marks (look_at tokens at) at s marks)) (look_at tokens at).kind at h.0 h.1
+
+accepts_next : (low : ℕ → Type 0) (total n at : ℕ) (tokens : List Token) (s : State) (marks : List Bool) (s2 : State) (marks2 : List Bool) → surveyed (suc n) at tokens s marks ≡ surveyed n (at + 1) tokens s2 marks2 → Accepts low total (suc n) at tokens s marks → Accepts low total n (at + 1) tokens s2 marks2
+accepts_next low total n at tokens s marks s2 marks2 e (inl lows) = inl lows
+accepts_next low total n at tokens s marks s2 marks2 e (inr h) = inr (h.0, sym e ∙ h.1)
+
 pub run : (low : ℕ → Type 0) → ((n : ℕ) → low (n + 1) → low n) → (total n at : ℕ) (tokens : List Token) (s : State) (marks : List Bool) (ds : List ℕ) (forks : List Fork) (kinds : List TokenKind)
-    → Tracked low total at kinds s.live s.waiting ds forks → length kinds ≡ n → Looks tokens at n kinds → low total → Open total at (marked ds marks) → Surveyed total n at tokens s marks (marked ds marks) forks
+    → Tracked low total at kinds s.live s.waiting ds forks → length kinds ≡ n → Looks tokens at n kinds → Accepts low total n at tokens s marks → Open total at (marked ds marks) → Surveyed total n at tokens s marks (marked ds marks) forks
 run low falls total n at tokens s marks ds forks [] t l looks lows o = absurd (let h = t.shorter in omega (arith, h))
 run low falls total zero at tokens s marks ds forks (k ∷ more) t l looks lows o = absurd (omega (arith, l))
 run low falls total (suc n) at tokens s marks ds forks (k ∷ more) t l looks lows o =
@@ -192,7 +213,7 @@ run low falls total (suc n) at tokens s marks ds forks (k ∷ more) t l looks lo
     let place : at + suc (length more) ≡ total = t.place in
     let st = step_path low falls total at k more s ds forks t in
     let here = looks_here tokens at n (k ∷ more) looks in
-    let fine : next_verdict look at s ≡ verdict.Fine = verdict_is look at s ∙ st.off.fine (falls_to low falls (at + 1) total (omega (arith, place)) lows) in
+    let fine = fine_here low falls total n at tokens s marks look (omega (arith, place)) here (λ e. verdict_is look at s ∙ st.off.fine e) lows in
     let one = surveyed_step n at tokens s marks look here fine in
     let new = marked (chosen_with at st.news ds) marks in
     let k2 : Noted at st.news (marked ds marks) new = chosen_noted total at st.news ds marks (omega (arith, place)) o in
@@ -203,7 +224,7 @@ run low falls total (suc n) at tokens s marks ds forks (k ∷ more) t l looks lo
           let marks2 = next_marks look at s marks in
           let same : marked a.es marks2 ≡ new = ap (marked a.es) (marks_are look at s marks) ∙ a.same in
           let state2 : Tracked low total (at + 1) more (next_state look at s).live (next_state look at s).waiting a.es st.later = subst (λ (u : List Thread). Tracked low total (at + 1) more u (next_state look at s).waiting a.es st.later) (sym (state_live look at s)) a.state in
-          let rest = run low falls total n (at + 1) tokens (next_state look at s) marks2 a.es st.later more state2 (omega (arith, l)) (looks_next tokens at n k more looks) lows (subst (Open total (at + 1)) (sym same) open2) in
+          let rest = run low falls total n (at + 1) tokens (next_state look at s) marks2 a.es st.later more state2 (omega (arith, l)) (looks_next tokens at n k more looks) (accepts_next low total n at tokens s marks (next_state look at s) marks2 one lows) (subst (Open total (at + 1)) (sym same) open2) in
           back_to total (suc n) at tokens s marks ds forks (k ∷ more) st.news st.later rest.found new place st.few st.forks_were k2 (one ∙ rest.accepts) (λ i j. rest.earlier i j ∙ ap (λ (m : List Bool). is_second m i) same) rest.agree
       | inr ended ↦
           let none : n ≡ 0 = (let e = ap length ended.no_tokens in omega (arith, l, e)) in
@@ -376,7 +397,7 @@ marked_none m = refl
 
 -- the first pass accepts the tokens of a path whose depth is within the limit
 pub survey_follows : (low : ℕ → Type 0) → ((n : ℕ) → low (n + 1) → low n) → (tokens : List Token) (height : ℕ) (forks : List Fork) → Path true low true false (begun (look_of (kinds_of tokens)) (part.Rule rule.Root) 0) 0 (kinds_of tokens) [] height forks
-    → low (length tokens) → Follows tokens forks
+    → Accepts low (length tokens) (length tokens) 0 tokens (first_state (look_at tokens 0)) (replicate (length tokens) false) → Follows tokens forks
 survey_follows low falls tokens height forks path lows =
     let kinds = kinds_of tokens in
     let n = length tokens in
@@ -385,7 +406,7 @@ survey_follows low falls tokens height forks path lows =
     let first : look_at tokens 0 ≡ look_of kinds = look_here tokens 0 in
     let state = first_state (look_of kinds) in
     let t : Tracked low n 0 kinds state.live state.waiting [] forks = subst (λ (k : ℕ). Tracked low k 0 kinds state.live state.waiting [] forks) same (started low kinds height forks path) in
-    let r = run low falls n n 0 tokens state marks [] forks kinds t same (whole_looks tokens n) lows (subst (Open n 0) (sym (marked_none marks)) (open_first n)) in
+    let r = run low falls n n 0 tokens state marks [] forks kinds t same (whole_looks tokens n) (subst (λ (l : Look). Accepts low n n 0 tokens (first_state l) marks) first lows) (subst (Open n 0) (sym (marked_none marks)) (open_first n)) in
     record {
       found = r.found;
       accepts = ap (λ (l : Look). surveyed n 0 tokens (first_state l) marks) first ∙ r.accepts;

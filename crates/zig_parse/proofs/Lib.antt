@@ -66,3 +66,4 @@ pub mod LastingEnds
 pub mod Leaving
 pub mod Marks
 pub mod Following
+pub mod Answers

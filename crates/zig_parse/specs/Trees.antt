@@ -1,5 +1,5 @@
 -- What the nodes of a tree say: which tokens they hold, in which rows of the grammar.
-use Rattle.std.specs.Prelude.{◌≡◌, ℕ, ◌+◌, ◌-◌, ◌<◌, ◌≤◌, List, [], ◌∷◌, map, length, slice_get, Some}
+use Rattle.std.specs.Prelude.{◌≡◌, ℕ, ◌+◌, ◌-◌, ◌<◌, ◌≤◌, List, [], ◌∷◌, map, length, take, slice_get, Some}
 use Rattle.zw_base.specs.declared.diag.Span.{Span}
 use Rattle.zig_tree.specs.declared.token.Token.{Token}
 use Rattle.zig_tree.specs.declared.token.TokenKind.{TokenKind}
@@ -9,7 +9,7 @@ use Rattle.zig_tree.specs.declared.grammar.Part.TheVariants as part
 use Rattle.zig_tree.specs.declared.tree.Kid.{Kid}
 use Rattle.zig_tree.specs.declared.tree.Kid.TheVariants as kid
 use Rattle.zig_tree.specs.declared.tree.Node.{Node}
-use Rattle.zig_tree.specs.GrammarSentences.{Pieces, nothing, word, node, Derives, Sentence, height}
+use Rattle.zig_tree.specs.GrammarSentences.{Pieces, nothing, word, node, Derives, Sentence, Accepted, Begins, height}
 use Rattle.zig_parse.specs.declared.fault.SyntaxFault.{SyntaxFault}
 use Rattle.zig_parse.specs.declared.fault.SyntaxFault.TheVariants.{Unexpected, TooDeep, OutOfMemory}
 use Rattle.zig_parse.specs.Nodes.{joined, token_span}
@@ -53,3 +53,22 @@ abbrev pub NamesToken : List Token → SyntaxFault → Type 0
 NamesToken tokens (Unexpected kind at) = (at ≤ length tokens) × (kind ≡ kind_of (slice_get tokens at)) × (IsEnded tokens → at < length tokens)
 NamesToken tokens (TooDeep at) = at < length tokens
 NamesToken tokens OutOfMemory = Unit {0}
+
+-- it can't be that there is none
+abbrev pub NotWithout : Type 0 → Type 0
+NotWithout A = (A → ⊥) → ⊥
+
+-- the node holds the tree that the tie-breaks choose
+abbrev pub IsChosen : List Token → List Node → ℕ → Type 0
+IsChosen tokens nodes root = (tree : Pieces) → Sentence (kinds_of tokens) tree → Spells tokens nodes (kid.Node root ∷ []) 0 (length tokens) tree
+
+-- these tokens are accepted with no tree
+abbrev pub IsNotAccepted : List Token → Type 0
+IsNotAccepted tokens = (tree : Pieces) → Accepted (kinds_of tokens) tree → ⊥
+
+-- Why tokens are refused. Some sentence begins with those before an unexpected one, and none with it too; and
+-- some sentence begins with those up to one that lies too deep, whatever the depth.
+abbrev pub IsRefusedFor : List Token → SyntaxFault → Type 0
+IsRefusedFor tokens (Unexpected kind at) = IsNotAccepted tokens × (IsEnded tokens → NotWithout (Begins (take at (kinds_of tokens))) × (Begins (take (at + 1) (kinds_of tokens)) → ⊥))
+IsRefusedFor tokens (TooDeep at) = IsNotAccepted tokens × (IsEnded tokens → NotWithout (Begins (take (at + 1) (kinds_of tokens))))
+IsRefusedFor tokens OutOfMemory = Unit {0}
