@@ -52,7 +52,7 @@ use Rattle.zig_parse.proofs.LastingEnds.{some_ends}
 abbrev low_step : (tree : Pieces) (n : ℕ) → low_in tree (n + 1) → low_in tree n
 low_step tree n h = low_falls tree n (n + 1) (omega arith) h
 
-agrees_as : (tokens : List Token) (marks : List Bool) (forks : List Fork) → Agree (length tokens) marks forks → Agrees tokens marks forks
+pub agrees_as : (tokens : List Token) (marks : List Bool) (forks : List Fork) → Agree (length tokens) marks forks → Agrees tokens marks forks
 agrees_as tokens marks [] h = tt
 agrees_as tokens marks (f ∷ fs) h = (h.0, agrees_as tokens marks fs h.1)
 
@@ -61,12 +61,12 @@ abbrev pub survey_of : List Token → Result (List Bool) SyntaxFault
 survey_of tokens = surveyed (length tokens) 0 tokens (first_state (look_at tokens 0)) (replicate (length tokens) false)
 
 -- the choices of a sentence, and that the first pass marks them where it accepts
-record Chosen (tokens : List Token) (tree : Pieces) : Type 0 where
-  forks : List Fork
-  sure : Sure (part.Rule rule.Root ∷ []) [] (kinds_of tokens) [] [] tree forks
-  follows : Accepts (low_in tree) (length tokens) (length tokens) 0 tokens (first_state (look_at tokens 0)) (replicate (length tokens) false) → Follows tokens forks
+pub record Chosen (tokens : List Token) (tree : Pieces) : Type 0 where
+  pub forks : List Fork
+  pub sure : Sure (part.Rule rule.Root ∷ []) [] (kinds_of tokens) [] [] tree forks
+  pub follows : Accepts (low_in tree) (length tokens) (length tokens) 0 tokens (first_state (look_at tokens 0)) (replicate (length tokens) false) → Follows tokens forks
 
-choices_of : (tokens : List Token) (tree : Pieces) → Sentence (kinds_of tokens) tree → Chosen tokens tree
+pub choices_of : (tokens : List Token) (tree : Pieces) → Sentence (kinds_of tokens) tree → Chosen tokens tree
 choices_of tokens tree s =
     let sure = sentence_sure (kinds_of tokens) tree s in
     let path = sure_path (kinds_of tokens) tree sure.0 sure.1 in
@@ -96,7 +96,7 @@ parsed_chosen tokens marks nodes root fits found grown number tree s =
     let spelled = subst (λ (l : List Node). Spells tokens l (kid.Node (length l - 1) ∷ []) 0 (length tokens) tree) same g.spelled in
     subst (λ (n : ℕ). Spells tokens nodes (kid.Node n ∷ []) 0 (length tokens) tree) (omega (arith, number)) spelled
 
-refused_not : (tokens : List Token) (e : SyntaxFault) → length tokens < 2 ^ 32 → parse_of tokens ≡ Err e → IsNotAccepted tokens
+pub refused_not : (tokens : List Token) (e : SyntaxFault) → length tokens < 2 ^ 32 → parse_of tokens ≡ Err e → IsNotAccepted tokens
 refused_not tokens e fits h tree a =
     let g = accepted_grown tokens tree fits a in
     let both : Ok g.nodes ≡ Err e = sym g.grows ∙ h in cc
@@ -104,7 +104,7 @@ refused_not tokens e fits h tree a =
 -- ---- the first pass, state by state
 
 -- where it ends: what is kept by each token holds there
-abbrev Found : (ℕ → State → Type 0) → List Token → Result (List Bool) SyntaxFault → Type 0
+abbrev pub Found : (ℕ → State → Type 0) → List Token → Result (List Bool) SyntaxFault → Type 0
 Found P tokens (Ok marks) = (s : State) × P (length tokens) s
 Found P tokens (Err (Unexpected kind at)) = (s : State) × P at s × (at < length tokens) × (next_verdict (look_at tokens at) at s ≡ verdict.Unexpected)
 Found P tokens (Err (TooDeep at)) = (s : State) × P at s × (at < length tokens) × (next_verdict (look_at tokens at) at s ≡ verdict.TooDeep)
@@ -120,20 +120,21 @@ found_at P tokens step (suc n) at s marks e p =
   where
     more : Result (List Bool) SyntaxFault
     more = surveyed n (at + 1) tokens (next_state (look_at tokens at) at s) (next_marks (look_at tokens at) at s marks)
+
     by : (v : Verdict) → next_verdict (look_at tokens at) at s ≡ v → (next_verdict (look_at tokens at) at s ≡ verdict.Fine → Found P tokens (surveyed n (at + 1) tokens (next_state (look_at tokens at) at s) (next_marks (look_at tokens at) at s marks)))
-      → Found P tokens (judged v (surveyed n (at + 1) tokens (next_state (look_at tokens at) at s) (next_marks (look_at tokens at) at s marks)) (look_at tokens at).kind at)
+        → Found P tokens (judged v (surveyed n (at + 1) tokens (next_state (look_at tokens at) at s) (next_marks (look_at tokens at) at s marks)) (look_at tokens at).kind at)
     by verdict.Fine h f = f h
     by verdict.Unexpected h f = (s, p, omega (arith, e), h)
     by verdict.TooDeep h f = (s, p, omega (arith, e), h)
 
 -- some thread is left, and what is known of all that are
-record Left (tokens : List Token) (at : ℕ) (s : State) : Type 0 where
-  first : Thread
-  others : List Thread
-  live : s.live ≡ first ∷ others
-  lasts : Lasts s.live s.waiting (take at (kinds_of tokens)) (look_at tokens at).kind
+pub record Left (tokens : List Token) (at : ℕ) (s : State) : Type 0 where
+  pub first : Thread
+  pub others : List Thread
+  pub live : s.live ≡ first ∷ others
+  pub lasts : Lasts s.live s.waiting (take at (kinds_of tokens)) (look_at tokens at).kind
 
-taken_more : (tokens : List Token) (at : ℕ) → at < length tokens → take (at + 1) (kinds_of tokens) ≡ take at (kinds_of tokens) ++ (look_at tokens at).kind ∷ []
+pub taken_more : (tokens : List Token) (at : ℕ) → at < length tokens → take (at + 1) (kinds_of tokens) ≡ take at (kinds_of tokens) ++ (look_at tokens at).kind ∷ []
 taken_more [] at h = absurd (omega arith)
 taken_more (t ∷ ts) zero h = refl
 taken_more (t ∷ ts) (suc at) h = let e : suc at + 1 ≡ suc (at + 1) = omega arith in ap (λ (n : ℕ). take n (kinds_of (t ∷ ts))) e ∙ ap (λ (l : List TokenKind). t.kind ∷ l) (taken_more ts at (omega arith))
@@ -179,12 +180,12 @@ first_left : (tokens : List Token) → Left tokens 0 (first_state (look_at token
 unfolding first_state
 first_left tokens = record { first = begun (look_at tokens 0) (part.Rule rule.Root) 0; others = []; live = refl; lasts = first_lasts (look_at tokens 0) }
 
-first_found : (tokens : List Token) → Found (Left tokens) tokens (survey_of tokens)
+pub first_found : (tokens : List Token) → Found (Left tokens) tokens (survey_of tokens)
 first_found tokens = found_at (Left tokens) tokens (left_next tokens) (length tokens) 0 (first_state (look_at tokens 0)) (replicate (length tokens) false) (omega arith) (first_left tokens)
 
 -- ---- some sentence begins with the tokens
 
-derived_begins : (front w : List TokenKind) → Reads (part.Rule rule.Root ∷ []) (front ++ w) [] → NotWithout (Begins front)
+pub derived_begins : (front w : List TokenKind) → Reads (part.Rule rule.Root ∷ []) (front ++ w) [] → NotWithout (Begins front)
 unfolding Begins
 derived_begins front w r none = sentence_some (front ++ w) r.0 r.1 (λ x s. none (w, x, s))
 
@@ -259,12 +260,12 @@ common_front l w zero h = refl
 common_front [] w (suc n) h = absurd (omega arith)
 common_front (k ∷ l) w (suc n) h = ap (λ (x : List TokenKind). k ∷ x) (common_front l w n (omega arith))
 
-front_length : (l : List TokenKind) (n : ℕ) → n ≤ length l → length (take n l) ≡ n
+pub front_length : (l : List TokenKind) (n : ℕ) → n ≤ length l → length (take n l) ≡ n
 front_length l zero h = refl
 front_length [] (suc n) h = absurd (omega arith)
 front_length (k ∷ l) (suc n) h = ap suc (front_length l n (omega arith))
 
-kinds_length : (tokens : List Token) → length (kinds_of tokens) ≡ length tokens
+pub kinds_length : (tokens : List Token) → length (kinds_of tokens) ≡ length tokens
 kinds_length [] = refl
 kinds_length (t ∷ ts) = ap suc (kinds_length ts)
 
@@ -306,7 +307,7 @@ no_begin tokens k at h refused (w, tree, s) =
 
 -- ---- the answers of the first pass
 
-found_where : (P : ℕ → State → Type 0) (tokens : List Token) (r s : Result (List Bool) SyntaxFault) → r ≡ s → Found P tokens r → Found P tokens s
+pub found_where : (P : ℕ → State → Type 0) (tokens : List Token) (r s : Result (List Bool) SyntaxFault) → r ≡ s → Found P tokens r → Found P tokens s
 found_where P tokens r s e f = subst (Found P tokens) e f
 
 fails_parse : (tokens : List Token) (e : SyntaxFault) → survey_of tokens ≡ Err e → parse_of tokens ≡ Err e

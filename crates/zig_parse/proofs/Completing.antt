@@ -51,7 +51,6 @@ low_more n (p ∷ ps) m l h =
 
 -- ---- the alternative that ends most quickly
 
-
 if_agrees : (x y : Bool) (l m : Bool) → x ≡ y → (x ≡ true → l ≡ true → m ≡ true) → (x ≡ false → l ≡ true → m ≡ true) → l ≡ true → m ≡ true
 if_agrees true y l m e f g = f refl
 if_agrees false y l m e f g = g refl
@@ -117,6 +116,7 @@ among_open whole (suc n) tokens depth (a ∷ more) o q l =
   where
     Found : List Alternative → Type 0
     Found rows_open = (b : Alternative) × Among b rows_open × (quick_all b.parts ≡ tokens) × (is_low depth b.parts ≡ true)
+
     by : (x : Bool) → (if x then opens_behind a.at n whole more else opens n whole more) ≡ true → (opens_behind a.at n whole more ≡ true → Found (with_shared whole a a.at more)) → (opens n whole more ≡ true → Found (open_at whole more))
         → Found (if x then with_shared whole a a.at more else open_at whole more)
     by true h f g = f h
@@ -242,10 +242,12 @@ rule_ending n r ps k rest all l h (later, d) =
     let q = quick_found (quick_row_of_rule r) (quick_depth_of_rule r) (quick_rule r) (after_rule r) t.0 (rule_rows r) first (rule_ends_well r) h (rule_agrees r first t.0) in
     let ends = kind_among (λ j. ends_before j q.a.parts) first (after_rule r) h (row_tested (row_ends_before (after_rule r)) q.a (rule_rows r) (rule_rows_end r) (open_is_row (quick_rule r ++ first ∷ t.0) q.a (rule_rows r) q.among)) in
     let inner = all q.a.parts first t.0 (low_more n q.a.parts (quick_depth_of_rule r) l q.low) ends in
-    let whole : quick_all (part.Rule r ∷ ps) ++ k ∷ rest ≡ quick_rule r ++ first ∷ t.0 = part_joined (quick_rule r) (quick_all ps) k rest ∙ ap (λ (m : List TokenKind). quick_rule r ++ m) t.1 in
-    (followed (made r inner.0) later, subst (λ (m : List TokenKind). Derives (part.Rule r ∷ ps) m (k ∷ rest) (followed (made r inner.0) later)) (sym whole)
-    (derives_rule r q.a ps (quick_rule r ++ first ∷ t.0) (first ∷ t.0) (k ∷ rest) inner.0 later q.among
-    (subst (λ (m : List TokenKind). Derives q.a.parts (m ++ first ∷ t.0) (first ∷ t.0) inner.0) q.same inner.1) (subst (λ (m : List TokenKind). Derives ps m (k ∷ rest) later) t.1 d)))
+    let whole : quick_all (part.Rule r ∷ ps) ++ k ∷ rest ≡ quick_rule r ++ first ∷ t.0 = part_joined (quick_rule r) (quick_all ps) k rest ∙ ap (λ (m : List TokenKind). quick_rule r ++ m) t.1 in (
+      followed (made r inner.0) later,
+      subst (λ (m : List TokenKind). Derives (part.Rule r ∷ ps) m (k ∷ rest) (followed (made r inner.0) later)) (sym whole)
+          (derives_rule r q.a ps (quick_rule r ++ first ∷ t.0) (first ∷ t.0) (k ∷ rest) inner.0 later q.among
+          (subst (λ (m : List TokenKind). Derives q.a.parts (m ++ first ∷ t.0) (first ∷ t.0) inner.0) q.same inner.1) (subst (λ (m : List TokenKind). Derives ps m (k ∷ rest) later) t.1 d)),
+    )
 
 group_ending : (n : ℕ) (g : Group) (ps : List Part) (k : TokenKind) (rest : List TokenKind) → EndsAll n → quick_depth_of_group g ≤ n → may_follow (first_or (quick_all ps) k) (part.Group g) ≡ true → Ending ps k rest → Ending (part.Group g ∷ ps) k rest
 group_ending n g ps k rest all l h (later, d) =
@@ -254,10 +256,12 @@ group_ending n g ps k rest all l h (later, d) =
     let q = quick_found (quick_row_of_group g) (quick_depth_of_group g) (quick_group g) (after_group g) t.0 (group_rows g) first (group_ends_well g) h (group_agrees g (quick_group g) first t.0) in
     let ends = kind_among (λ j. ends_before j q.a.parts) first (after_group g) h (row_tested (row_ends_before (after_group g)) q.a (group_rows g) (group_rows_end g) (open_is_row (quick_group g ++ first ∷ t.0) q.a (group_rows g) q.among)) in
     let inner = all q.a.parts first t.0 (low_more n q.a.parts (quick_depth_of_group g) l q.low) ends in
-    let whole : quick_all (part.Group g ∷ ps) ++ k ∷ rest ≡ quick_group g ++ first ∷ t.0 = part_joined (quick_group g) (quick_all ps) k rest ∙ ap (λ (m : List TokenKind). quick_group g ++ m) t.1 in
-    (followed inner.0 later, subst (λ (m : List TokenKind). Derives (part.Group g ∷ ps) m (k ∷ rest) (followed inner.0 later)) (sym whole)
-    (derives_group g q.a ps (quick_group g ++ first ∷ t.0) (first ∷ t.0) (k ∷ rest) inner.0 later q.among
-    (subst (λ (m : List TokenKind). Derives q.a.parts (m ++ first ∷ t.0) (first ∷ t.0) inner.0) q.same inner.1) (subst (λ (m : List TokenKind). Derives ps m (k ∷ rest) later) t.1 d)))
+    let whole : quick_all (part.Group g ∷ ps) ++ k ∷ rest ≡ quick_group g ++ first ∷ t.0 = part_joined (quick_group g) (quick_all ps) k rest ∙ ap (λ (m : List TokenKind). quick_group g ++ m) t.1 in (
+      followed inner.0 later,
+      subst (λ (m : List TokenKind). Derives (part.Group g ∷ ps) m (k ∷ rest) (followed inner.0 later)) (sym whole)
+          (derives_group g q.a ps (quick_group g ++ first ∷ t.0) (first ∷ t.0) (k ∷ rest) inner.0 later q.among
+          (subst (λ (m : List TokenKind). Derives q.a.parts (m ++ first ∷ t.0) (first ∷ t.0) inner.0) q.same inner.1) (subst (λ (m : List TokenKind). Derives ps m (k ∷ rest) later) t.1 d)),
+    )
 
 row_ending : (n : ℕ) (ps : List Part) (k : TokenKind) (rest : List TokenKind) → EndsAll n → is_low (suc n) ps ≡ true → ends_before k ps ≡ true → Ending ps k rest
 row_ending n [] k rest all l h = (nothing, derives_none (k ∷ rest))

@@ -45,11 +45,11 @@ is_free (part.OneOf c) = not (has_kind c kind.End)
 is_free (part.Rule r) = not (is_root r)
 is_free (part.Group g) = true
 
-abbrev are_free : List Part → Bool
+abbrev pub are_free : List Part → Bool
 are_free [] = true
 are_free (p ∷ ps) = is_free p && are_free ps
 
-abbrev row_free : Alternative → Bool
+abbrev pub row_free : Alternative → Bool
 row_free a = are_free a.parts
 
 -- the end stands last of some parts, and nowhere else
@@ -64,7 +64,7 @@ end_last [] = false
 end_last (p ∷ []) = is_end p
 end_last (p ∷ q ∷ ps) = is_free p && end_last (q ∷ ps)
 
-rule_free : (r : Rule) → is_root r ≡ false → each_row row_free (rule_rows r) ≡ true
+pub rule_free : (r : Rule) → is_root r ≡ false → each_row row_free (rule_rows r) ≡ true
 unfolding rule_rows number_of is_const_or_var is_name_word is_assign_operator is_compare_operator is_bit_operator is_shift_operator is_add_operator is_multiply_operator is_prefix_operator is_pointer_mark is_atom_word
 rule_free rule.Root h = absurd (cc)
 rule_free rule.Member h = refl
@@ -110,7 +110,7 @@ rule_free rule.Switch h = refl
 rule_free rule.Prong h = refl
 rule_free rule.Item h = refl
 
-group_free : (g : Group) → each_row row_free (group_rows g) ≡ true
+pub group_free : (g : Group) → each_row row_free (group_rows g) ≡ true
 unfolding group_rows number_of is_const_or_var is_name_word is_assign_operator is_compare_operator is_bit_operator is_shift_operator is_add_operator is_multiply_operator is_prefix_operator is_pointer_mark is_atom_word
 group_free group.RootMembers = refl
 group_free group.Members = refl

@@ -133,9 +133,10 @@ read_lively read look goal p qs f m = record {
   where
     back : (c end : List TokenKind) → Reads (goal ∷ []) (read ++ look.kind ∷ c) end → Reads (goal ∷ []) ((read ++ look.kind ∷ []) ++ c) end
     back c end r = subst (λ (l : List TokenKind). Reads (goal ∷ []) l end) (sym (one_after read look.kind c)) r
+
     by : ((c end : List TokenKind) → Reads (p ∷ qs) (look.kind ∷ c) end → Reads (goal ∷ []) (read ++ look.kind ∷ c) end)
-      ⊎ ((look.kind ≡ kind.Identifier) × (is_colon look.next ≡ false) × Typed (p ∷ qs) × ((c end : List TokenKind) → is_colon (next_kind c) ≡ false → Reads (p ∷ qs) (look.kind ∷ c) end → Reads (goal ∷ []) (read ++ look.kind ∷ c) end))
-      → GoesOn (read ++ look.kind ∷ []) goal qs ⊎ ((is_colon look.next ≡ false) × ((more : List Part) × (qs ≡ part.Group group.SuffixTail ∷ more)) × GoesOnPlain (read ++ look.kind ∷ []) goal qs)
+        ⊎ ((look.kind ≡ kind.Identifier) × (is_colon look.next ≡ false) × Typed (p ∷ qs) × ((c end : List TokenKind) → is_colon (next_kind c) ≡ false → Reads (p ∷ qs) (look.kind ∷ c) end → Reads (goal ∷ []) (read ++ look.kind ∷ c) end))
+        → GoesOn (read ++ look.kind ∷ []) goal qs ⊎ ((is_colon look.next ≡ false) × ((more : List Part) × (qs ≡ part.Group group.SuffixTail ∷ more)) × GoesOnPlain (read ++ look.kind ∷ []) goal qs)
     by (inl s) = inl (λ c end r. back c end (s c end (read_on p qs look.kind c end f r)))
     by (inr (e, plain, typed, s)) = inr (plain, typed_reads p qs look.kind typed f, λ c end free r. back c end (s c end free (read_on p qs look.kind c end f r)))
 
@@ -181,15 +182,15 @@ ready_waits waiting read look t p r w =
       p = p;
       waits = met_waits p p t w;
       story = λ c end d. subst (λ (g : Part). Reads (g ∷ []) (read ++ kind.LeftBrace ∷ c) end) (sym keep.1)
-      (by r.moves.midway.story is brace c end (subst (λ (l : List Part). Reads l (kind.LeftBrace ∷ c) end) same d));
+          (by r.moves.midway.story is brace c end (subst (λ (l : List Part). Reads l (kind.LeftBrace ∷ c) end) same d));
       ended = λ k h. subst (λ (l : List Part). ends_before k l ≡ true) (sym same) (r.moves.midway.ended k (subst (λ (g : Part). may_follow k g ≡ true) keep.1 h));
       tidies = subst (λ (l : List Part). tidy (is_file waiting) l ≡ true) (sym same) r.moves.tidies;
       wanted = subst (Wanted waiting) (sym keep.1) r.wanted;
     }
   where
     by : ((c end : List TokenKind) → Reads (coming t) (look.kind ∷ c) end → Reads (t.goal ∷ []) (read ++ look.kind ∷ c) end)
-      ⊎ ((look.kind ≡ kind.Identifier) × (is_colon look.next ≡ false) × Typed (coming t) × ((c end : List TokenKind) → is_colon (next_kind c) ≡ false → Reads (coming t) (look.kind ∷ c) end → Reads (t.goal ∷ []) (read ++ look.kind ∷ c) end))
-      → look.kind ≡ kind.LeftBrace → is_kind look.kind kind.LeftBrace ≡ true → (c end : List TokenKind) → Reads (coming t) (kind.LeftBrace ∷ c) end → Reads (t.goal ∷ []) (read ++ kind.LeftBrace ∷ c) end
+        ⊎ ((look.kind ≡ kind.Identifier) × (is_colon look.next ≡ false) × Typed (coming t) × ((c end : List TokenKind) → is_colon (next_kind c) ≡ false → Reads (coming t) (look.kind ∷ c) end → Reads (t.goal ∷ []) (read ++ look.kind ∷ c) end))
+        → look.kind ≡ kind.LeftBrace → is_kind look.kind kind.LeftBrace ≡ true → (c end : List TokenKind) → Reads (coming t) (kind.LeftBrace ∷ c) end → Reads (t.goal ∷ []) (read ++ kind.LeftBrace ∷ c) end
     by (inl s) is brace c end d = subst (λ (k : TokenKind). Reads (t.goal ∷ []) (read ++ k ∷ c) end) is (s c end (subst (λ (k : TokenKind). Reads (coming t) (k ∷ c) end) (sym is) d))
     by (inr s) is brace c end d = absurd (no_identifier look.kind brace s.0)
 
@@ -259,7 +260,7 @@ begun_alive those waiting look p depth f is w =
     let story : GoesOn (kind.LeftBrace ∷ []) p (body p) = body_story p f in
     record {
       lively = subst (λ (g : Part). Lively (kind.LeftBrace ∷ []) look.next g (coming (after_read b))) (sym goal)
-      (subst (λ (l : List Part). Lively (kind.LeftBrace ∷ []) look.next p l) (sym now) (record { story = inl story; ended = ended }));
+          (subst (λ (l : List Part). Lively (kind.LeftBrace ∷ []) look.next p l) (sym now) (record { story = inl story; ended = ended }));
       left = inr (left_brace, subst (λ (l : List Part). tidy false l ≡ true) (sym now) o.body_tidy, λ e. some_body p f (sym now ∙ e));
       wanted = subst (Wanted (those ∷ waiting)) (sym goal) w;
     }

@@ -200,13 +200,16 @@ file_lasts front read n t a l = by (coming t) refl
   where
     goal_is : t.goal ≡ part.Rule rule.Root
     goal_is = l.wanted
+
     ended : ends_before kind.End (coming t) ≡ true
     ended = l.lively.ended kind.End (subst (λ (g : Part). may_follow kind.End g ≡ true) (sym l.wanted) root_follows)
+
     done : Reads (coming t) (quick_all (coming t)) [] → (w : List TokenKind) × Reads (part.Rule rule.Root ∷ []) ((front ++ read) ++ w) []
     done r =
         (let c = quick_all (coming t) in
         let whole = ended_read read n t.goal (coming t) kind.End c [] l.lively ended (next_first c) r in
         (c, subst (λ (x : List TokenKind). Reads (part.Rule rule.Root ∷ []) ((x ++ read) ++ c) []) (sym (no_before front a)) (subst (λ (g : Part). Reads (g ∷ []) (read ++ c) []) l.wanted whole)))
+
     by : (ps : List Part) → coming t ≡ ps → (w : List TokenKind) × Reads (part.Rule rule.Root ∷ []) ((front ++ read) ++ w) []
     by [] e = done (subst (λ (ps : List Part). Reads ps (quick_all ps) []) (sym e) (nothing, derives_none []))
     by (p ∷ ps) e = done (file_read (coming t) (subst EndsFile (sym e) (file_ends p ps (subst (λ (x : List Part). tidy true x ≡ true) e l.tidies))) ended)
@@ -230,6 +233,7 @@ some_ends live waiting front n t ts e l = by waiting l.around l.starts (subst (�
   where
     back : (w : List TokenKind) → Reads (part.Rule rule.Root ∷ []) ((l.before ++ l.read) ++ w) [] → Reads (part.Rule rule.Root ∷ []) (front ++ w) []
     back w r = subst (λ (x : List TokenKind). Reads (part.Rule rule.Root ∷ []) (x ++ w) []) (sym l.front_is) r
+
     by : (ws : List (List Thread)) → Around l.before ws → Starts ws l.read → Alive ws l.read n t → (w : List TokenKind) × Reads (part.Rule rule.Root ∷ []) (front ++ w) []
     by [] a s h = (let r = file_lasts l.before l.read n t a h in (r.0, back r.0 r.1))
     by (those ∷ others) a s h = (let r = brace_lasts l.before l.read those others n t a s h in (r.0, back r.0 r.1))

@@ -106,8 +106,10 @@ passes look at s front l = by (any_waits ready) refl
   where
     ready : List Thread
     ready = settled_all look at s.live
+
     each : Each (Ready s.waiting l.read look) ready
     each = all_ready s.waiting l.read look at s.live l.alive
+
     by : (b : Bool) → any_waits ready ≡ b → Passed (after_token [] (if b then inside look (those_waiting ready) else ready)) (if b then those_waiting ready ∷ s.waiting else s.waiting) (front ++ look.kind ∷ []) look.kind look.next
     by false e = record {
       before = l.before;
@@ -127,8 +129,8 @@ passes look at s front l = by (any_waits ready) refl
           around = around_brace l.before l.read those s.waiting l.around l.starts (waiting_all s.waiting l.read look ready each);
           starts = ([], refl);
           gone = kept_token (Gone (those ∷ s.waiting) (kind.LeftBrace ∷ []) look.kind look.next) (inside look those)
-          (each_mapped (Gone (those ∷ s.waiting) (kind.LeftBrace ∷ []) look.kind look.next) after_read (inside look those)
-          (subst (λ (k : TokenKind). Each (λ (t : Thread). Gone (those ∷ s.waiting) (kind.LeftBrace ∷ []) k look.next (after_read t)) (inside look those)) (sym is) (inside_all those s.waiting look is)));
+              (each_mapped (Gone (those ∷ s.waiting) (kind.LeftBrace ∷ []) look.kind look.next) after_read (inside look those)
+              (subst (λ (k : TokenKind). Each (λ (t : Thread). Gone (those ∷ s.waiting) (kind.LeftBrace ∷ []) k look.next (after_read t)) (inside look those)) (sym is) (inside_all those s.waiting look is)));
         })
 
 -- ---- a brace is closed
@@ -147,11 +149,14 @@ result_read waiting read k n (t ∷ ts) p f file close h e c = by (is_part t.goa
     none_left : Left false kind.RightBrace (coming t) → coming t ≡ []
     none_left (inl x) = x.1
     none_left (inr x) = absurd (closing_not x.0)
+
     empty : coming t ≡ []
     empty = none_left (subst (λ (b : Bool). Left b kind.RightBrace (coming t)) file (subst (λ (j : TokenKind). Left (is_file waiting) j (coming t)) close h.0.left))
+
     story : GoesOn read t.goal (coming t) ⊎ ((is_colon n ≡ false) × ((qs : List Part) × (coming t ≡ part.Group group.SuffixTail ∷ qs)) × GoesOnPlain read t.goal (coming t)) → Reads (t.goal ∷ []) (read ++ c) c
     story (inl s) = s c c (subst (λ (l : List Part). Reads l c c) (sym empty) (nothing, derives_none c))
     story (inr s) = absurd (let wrong : [] ≡ part.Group group.SuffixTail ∷ s.1.0 = sym empty ∙ s.1.1 in cc)
+
     by : (b : Bool) → is_part t.goal p ≡ b → (if b then Some (finished t) else result_for (map finished ts) p) ≡ Some f → (result_for (map finished ts) p ≡ Some f → Reads (p ∷ []) (read ++ c) c) → Reads (p ∷ []) (read ++ c) c
     by true g e more = subst (λ (q : Part). Reads (q ∷ []) (read ++ c) c) (same_part t.goal p g) (story h.0.lively.story)
     by false g e more = more e
@@ -216,6 +221,7 @@ leaves look live waiting front p = by (is_closed look live) refl
   where
     brace : is_closed look live ≡ true → look.kind ≡ kind.RightBrace
     brace e = same_kind look.kind kind.RightBrace (and_parts (is_kind look.kind kind.RightBrace) (has_read_all live) e).0
+
     by : (b : Bool) → is_closed look live ≡ b → Lasts (if b then resumed_top (map finished live) waiting else live) (if b then rest waiting else waiting) front look.next
     by false e = record { before = p.before; read = p.read; front_is = p.front_is; around = p.around; starts = p.starts; alive = each_kept (Gone waiting p.read look.kind look.next) (Alive waiting p.read look.next) live (gone_alive waiting p.read look.kind look.next) p.gone }
     by true e = subst (λ (l : List TokenKind). Lasts (resumed_top (map finished live) waiting) (rest waiting) l look.next) (sym p.front_is) (closed_by live waiting p.before p.read look.kind look.next (brace e) p.around p.starts p.gone)

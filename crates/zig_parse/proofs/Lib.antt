@@ -67,3 +67,4 @@ pub mod Leaving
 pub mod Marks
 pub mod Following
 pub mod Answers
+pub mod WholeAnswers

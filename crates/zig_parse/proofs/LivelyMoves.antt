@@ -108,8 +108,13 @@ primary_story read n goal a qs true e same f =
     colon_is : is_kind kind.Colon kind.Colon ≡ true
     colon_is = refl
 primary_story read n goal a qs false e same f =
-    subst (λ (x : Alternative). Story read (record { kind = kind.Identifier; next = n }) goal (x.parts ++ qs)) (sym same) (inr (refl, e, typed_type (part.Group group.InitializerOption ∷ qs), λ c end plain r.
-    f c end (rule_taken rule.Primary type_row qs (kind.Identifier ∷ c) end (subst (λ (l : List Alternative). Among type_row l) (sym (type_open c plain)) (inl refl)) r)))
+    subst (λ (x : Alternative). Story read (record { kind = kind.Identifier; next = n }) goal (x.parts ++ qs)) (sym same) (inr (
+      refl,
+      e,
+      typed_type (part.Group group.InitializerOption ∷ qs),
+      λ c end plain r.
+          f c end (rule_taken rule.Primary type_row qs (kind.Identifier ∷ c) end (subst (λ (l : List Alternative). Among type_row l) (sym (type_open c plain)) (inl refl)) r),
+    ))
 
 -- the rows behind a type that begins with an identifier
 typed_rows : (n : TokenKind) (q : Rule) (a : Alternative) (qs : List Part) → Typed (part.Rule q ∷ qs) → Among a (open_at (kind.Identifier ∷ n ∷ []) (rule_rows q)) → Typed (a.parts ++ qs)

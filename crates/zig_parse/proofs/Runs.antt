@@ -1,5 +1,5 @@
 -- Moves of the second pass one after another, and that the pass makes them.
-use Rattle.std.proofs.Common.{◌≡◌, ℕ, suc, ◌+◌, ◌-◌, ◌<◌, ◌≤◌, Bool, true, false, List, length, None, Result, Ok, Err, refl, sym, ◌∙◌, ap, arith}
+use Rattle.std.proofs.Common.{◌≡◌, ℕ, suc, ◌+◌, ◌-◌, ◌<◌, ◌≤◌, Bool, true, false, ◌⊎◌, inl, inr, List, length, None, Result, Ok, Err, refl, sym, ◌∙◌, ap, arith}
 use Rattle.std.specs.Prelude.{if◌then◌else◌}
 use Rattle.zig_tree.specs.declared.token.Token.{Token}
 use Rattle.zig_parse.specs.declared.choice.Look.{Look}
@@ -108,3 +108,41 @@ run_whole told tokens marks at end g last h (run_reads _ _ _ _ l e d r) k =
     let first = first_ok (read_one at tokens (look_at tokens at) (is_second marks at) g) (all_read (length tokens - at - 1) (at + 1) tokens marks) h (sym (ap (λ (n : ℕ). all_read n at tokens marks g) one) ∙ k) in
     let low = read_low at tokens (look_at tokens at) (is_second marks at) g first.0 e first.1 in
     run_whole told tokens marks (at + 1) end (read_at at g) last h r (sym (all_read_ok (length tokens) at tokens marks g (read_at at g) l (read_now at tokens (look_at tokens at) (is_second marks at) g e low)) ∙ k)
+
+deep_read : (at : ℕ) (tokens : List Token) (look : Look) (second : Bool) (g : Grown) → next_move look false g.thread ≡ move.Read → (after_read g.thread).deep ≡ true → read_one at tokens look second g ≡ Err (TooDeep at)
+unfolding read_one
+deep_read at tokens look second g e d =
+    let m = moved_is tokens look second g move.Read e in
+    let r : ready (moves_for g.thread) tokens look second g ≡ record { fits = true; grown = g } =
+    ready_known (moves_for g.thread) tokens look second true g (omega arith) m.1 ∙ ap (λ (x : Grown). record { fits = true; grown = x }) m.0 in
+    ap (read_where at look) r ∙ ap (λ (b : Bool). if b then Err (TooDeep at) else Ok (read_at at g)) d
+
+first_deep : (n at : ℕ) (tokens : List Token) (marks : List Bool) (g : Grown) → read_one at tokens (look_at tokens at) (is_second marks at) g ≡ Err (TooDeep at) → all_read (suc n) at tokens marks g ≡ Err (TooDeep at)
+unfolding all_read
+first_deep n at tokens marks g e = ap (λ (r : Result Grown SyntaxFault). r >>= all_read n (at + 1) tokens marks) e
+
+-- the pass makes these moves, or a token lies too deep
+pub run_or : (told : Bool) (tokens : List Token) (marks : List Bool) (at end : ℕ) (g last : Grown) → Run told tokens marks at g end last
+    → (all_read (length tokens - at) at tokens marks g ≡ all_read (length tokens - end) end tokens marks last) ⊎ ((a : ℕ) × (all_read (length tokens - at) at tokens marks g ≡ Err (TooDeep a)))
+run_or told tokens marks at end g last (run_none _ _) = inl refl
+run_or told tokens marks at end g last (run_moves _ _ _ _ l e r) =
+    let same = moves_read tokens marks at g l e in
+    elim (run_or told tokens marks at end (moved tokens (look_at tokens at) (is_second marks at) g) last r) [
+      | inl h ↦ inl (same ∙ h)
+      | inr h ↦ inr (h.0, same ∙ h.1)
+    ]
+run_or told tokens marks at end g last (run_reads _ _ _ _ l e d r) = by (after_read g.thread).deep refl (run_or told tokens marks (at + 1) end (read_at at g) last r)
+  where
+    one : length tokens - at ≡ suc (length tokens - at - 1)
+    one = omega (arith, l)
+
+    by : (b : Bool) → (after_read g.thread).deep ≡ b
+        → (all_read (length tokens - (at + 1)) (at + 1) tokens marks (read_at at g) ≡ all_read (length tokens - end) end tokens marks last) ⊎ ((a : ℕ) × (all_read (length tokens - (at + 1)) (at + 1) tokens marks (read_at at g) ≡ Err (TooDeep a)))
+        → (all_read (length tokens - at) at tokens marks g ≡ all_read (length tokens - end) end tokens marks last) ⊎ ((a : ℕ) × (all_read (length tokens - at) at tokens marks g ≡ Err (TooDeep a)))
+    by false b more =
+        (let same = all_read_ok (length tokens) at tokens marks g (read_at at g) l (read_now at tokens (look_at tokens at) (is_second marks at) g e b) in
+        elim more [
+          | inl h ↦ inl (same ∙ h)
+          | inr h ↦ inr (h.0, same ∙ h.1)
+        ])
+    by true b more = inr (at, ap (λ (n : ℕ). all_read n at tokens marks g) one ∙ first_deep (length tokens - at - 1) at tokens marks g (deep_read at tokens (look_at tokens at) (is_second marks at) g e b))

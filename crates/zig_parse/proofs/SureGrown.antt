@@ -1,6 +1,6 @@
 -- With marks that name the choices of a sure tree, no deeper than 200 nodes, the second pass gives nodes that
 -- spell that very tree.
-use Rattle.std.proofs.Common.{◌≡◌, ℕ, ◌+◌, ◌-◌, ◌<◌, ◌≤◌, Bool, true, false, ◌⊎◌, List, [], ◌∷◌, ◌++◌, length, Result, Ok, Err, refl, sym, ◌∙◌, ap, subst, arith, append-nil, length-append, length-drop}
+use Rattle.std.proofs.Common.{◌≡◌, ℕ, ◌+◌, ◌-◌, ◌<◌, ◌≤◌, Bool, true, false, ◌⊎◌, inl, inr, List, [], ◌∷◌, ◌++◌, length, Result, Ok, Err, refl, sym, ◌∙◌, ap, subst, arith, append-nil, length-append, length-drop}
 use Rattle.std.specs.Prelude.{if◌then◌else◌, ◌^◌, nat_eq, replicate}
 use Rattle.std.proofs.lemmas.Bool.{eq-eqb}
 use Rattle.zig_tree.specs.declared.token.Token.{Token}
@@ -19,7 +19,7 @@ use Rattle.zig_tree.specs.GrammarSentences.{Pieces, nothing, word, followed, mad
 use Rattle.zig_parse.specs.declared.thread.Frame.{Frame}
 use Rattle.zig_parse.specs.declared.thread.Item.{Item}
 use Rattle.zig_parse.specs.declared.fault.SyntaxFault.{SyntaxFault}
-use Rattle.zig_parse.specs.declared.fault.SyntaxFault.TheVariants.{Unexpected}
+use Rattle.zig_parse.specs.declared.fault.SyntaxFault.TheVariants.{Unexpected, TooDeep}
 use Rattle.zig_parse.specs.Threads.{collapses, fresh, is_braced, item, opened, put}
 use Rattle.zig_parse.specs.Choices.{choices, matching}
 use Rattle.zig_parse.specs.Nodes.{Parts}
@@ -32,7 +32,7 @@ use Rattle.zig_parse.proofs.Tokens.{all_read_end}
 use Rattle.zig_parse.proofs.Sound.{shut_is}
 use Rattle.zig_parse.specs.Ways.{Fork, Sure, Taken, noted, sure_none, sure_token, sure_group, sure_rule, sure_group_apart, sure_rule_apart, taken_sole, taken_first, taken_second}
 use Rattle.zig_parse.proofs.SpelledOnce.{spells_same}
-use Rattle.zig_parse.proofs.Runs.{run_read, run_whole, run_within}
+use Rattle.zig_parse.proofs.Runs.{run_or, run_read, run_whole, run_within}
 use Rattle.zig_parse.proofs.Growing.{Place, State, coming}
 use Rattle.zig_parse.proofs.Gathered.{gathered}
 use Rattle.zig_parse.proofs.Goes.{After, Goes, after_run, kinds_length, token_after}
@@ -269,6 +269,29 @@ pub grown_sure : (tokens : List Token) (tree : Pieces) (forks : List Fork) (mark
 grown_sure tokens tree forks marks nodes fits s agree e =
     let r = root_read false tokens tree forks marks fits s agree (λ t. absurd (cc)) in
     subst (GrownAs tokens (grown_from tokens marks)) (sym r.same) (read_whole tokens marks false r.p r.low r.some r.after (loose_read tokens marks false r.p r.low nodes r.after e))
+
+or_read : (tokens : List Token) (marks : List Bool) (told : Bool) (p : Pieces) (low : Low told p) (a : After tokens marks 0 (sprout (look_at tokens 0)) (root_place told p low) [] p [])
+    → (all_read (length tokens) 0 tokens marks (sprout (look_at tokens 0)) ≡ Ok a.last) ⊎ ((at : ℕ) × (all_read (length tokens) 0 tokens marks (sprout (look_at tokens 0)) ≡ Err (TooDeep at)))
+or_read tokens marks told p low a =
+    let start = sprout (look_at tokens 0) in
+    let end = ends_last tokens marks told p low a in
+    let all : length tokens - 0 ≡ length tokens = omega arith in
+    let same = ap (λ (n : ℕ). all_read n 0 tokens marks start) (sym all) in
+    elim (run_or told tokens marks 0 a.end start a.last a.run) [
+      | inl h ↦ inl (same ∙ h ∙ all_read_end (length tokens) a.end tokens marks a.last (omega arith))
+      | inr h ↦ inr (h.0, same ∙ h.1)
+    ]
+
+-- or else a token lies too deep
+pub grown_or : (tokens : List Token) (tree : Pieces) (forks : List Fork) (marks : List Bool) → length tokens < 2 ^ 32 → Sure (part.Rule rule.Root ∷ []) [] (kinds_of tokens) [] [] tree forks → Agrees tokens marks forks
+    → GrownAs tokens (grown_from tokens marks) tree ⊎ ((at : ℕ) × (grown_from tokens marks ≡ Err (TooDeep at)))
+unfolding grown_from
+grown_or tokens tree forks marks fits s agree =
+    let r = root_read false tokens tree forks marks fits s agree (λ t. absurd (cc)) in
+    elim (or_read tokens marks false r.p r.low r.after) [
+      | inl h ↦ inl (subst (GrownAs tokens (grown_from tokens marks)) (sym r.same) (read_whole tokens marks false r.p r.low r.some r.after h))
+      | inr h ↦ inr (h.0, ap (λ (x : Result Grown SyntaxFault). x >>= λ g. whole (length tokens) tokens g) h.1)
+    ]
 
 -- so where the first pass names the choices, all is read as that tree
 pub sure_parsed : (tokens : List Token) (tree : Pieces) (forks : List Fork) (marks : List Bool) → length tokens < 2 ^ 32 → Sure (part.Rule rule.Root ∷ []) [] (kinds_of tokens) [] [] tree forks → Agrees tokens marks forks → height tree ≤ 200

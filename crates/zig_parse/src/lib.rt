@@ -24,7 +24,8 @@ mod thread;
 
 pub use fault::SyntaxFault;
 pub use laws::{
-    chosen_is_sure, derived_is_sentence, last_look, moves_suffice, one_answer, one_tree, tree_is_derived,
+    chosen_is_sure, derived_is_sentence, last_look, moves_suffice, one_answer, one_tree,
+    tree_is_derived,
 };
 pub use parser::parse;
 

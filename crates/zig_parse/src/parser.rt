@@ -2,7 +2,7 @@
 ghost use Rattle.std.specs.Prelude.{◌≡◌, ◌+◌, IfErr, IfOk, length};
 ghost use Rattle.zig_parse.specs.Growth.{parse_of};
 ghost use Rattle.zig_parse.specs.Surveys.{Gives};
-ghost use Rattle.zig_parse.specs.Trees.{HoldsAll, IsSentence, NamesToken, kinds_of};
+ghost use Rattle.zig_parse.specs.Trees.{HoldsAll, IsChosen, IsRefusedFor, IsSentence, NamesToken, kinds_of};
 
 use crate::fault::SyntaxFault;
 use crate::grow::grow;
@@ -21,8 +21,12 @@ pub fn parse(alloc: Global, tokens: &[Token]) -> Result<Tree, SyntaxFault>
     ensures tree { IfOk result (λ t. HoldsAll tokens.now t.nodes t.root) }
     // So the tokens are a sentence: no other list has a tree.
     ensures sentence { IfOk result (λ _. IsSentence (kinds_of tokens.now)) }
+    // The tree is the one that the tie-breaks choose.
+    ensures chosen { IfOk result (λ t. IsChosen tokens.now t.nodes t.root) }
     // A refusal names a token and its kind.
     ensures refused { IfErr result (NamesToken tokens.now) }
+    // No sentence whose tree is within the depth is refused; and none, however deep, begins with an unexpected token.
+    ensures reason { IfErr result (IsRefusedFor tokens.now) }
 {
     let Ok(count) = u32::try_from(tokens.len()) else {
         return Err(SyntaxFault::OutOfMemory);

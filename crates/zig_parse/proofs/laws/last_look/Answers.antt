@@ -1,7 +1,3 @@
-use Rattle.zig_parse.proofs.LastingEnds.{some_ends}
-use Rattle.zig_parse.proofs.Following.{survey_follows}
-use Rattle.zig_parse.proofs.SurePaths.{sure_path}
-use Rattle.zig_parse.proofs.Answers.{survey_refused}
 use Rattle.zig_parse.proofs.Behind.{last_look, last_unexpected}
 use Rattle.zig_parse.proofs.laws.last_look.Goals as goal
 
