@@ -1,19 +1,18 @@
 -- What the parser answers is what the definition of a sentence says.
-use Rattle.std.proofs.Common.{◌≡◌, ℕ, zero, suc, ◌+◌, ◌-◌, ◌<◌, ◌≤◌, Bool, true, false, ◌⊎◌, inl, inr, List, [], ◌∷◌, ◌++◌, map, length, take, drop, Option, Some, None, Result, Ok, Err, refl, sym, ◌∙◌, ap, subst, arith, append_assoc, append-nil, length-append, length-drop}
-use Rattle.std.specs.Prelude.{if◌then◌else◌, replicate, slice_get, ◌^◌}
+use Rattle.std.proofs.Common.{◌≡◌, ℕ, zero, suc, ◌+◌, ◌-◌, ◌<◌, ◌≤◌, Bool, true, false, ◌⊎◌, inl, inr, List, [], ◌∷◌, ◌++◌, length, take, drop, Result, Ok, Err, refl, sym, ◌∙◌, ap, subst, arith, length-append}
+use Rattle.std.specs.Prelude.{replicate, ◌^◌}
 use Rattle.zig_tree.specs.declared.token.Token.{Token}
 use Rattle.zig_tree.specs.declared.token.TokenKind.{TokenKind}
 use Rattle.zig_tree.specs.declared.token.TokenKind.TheVariants as kind
 use Rattle.zig_tree.specs.declared.grammar.Rule.TheVariants as rule
 use Rattle.zig_tree.specs.declared.grammar.Group.TheVariants as group
 use Rattle.zig_tree.specs.declared.grammar.When.TheVariants as when
-use Rattle.zig_tree.specs.declared.grammar.Part.{Part}
 use Rattle.zig_tree.specs.declared.grammar.Part.TheVariants as part
 use Rattle.zig_tree.specs.declared.tree.Kid.TheVariants as kid
 use Rattle.zig_tree.specs.declared.tree.Node.{Node}
-use Rattle.zig_tree.specs.Kinds.{is_kind, number_of}
+use Rattle.zig_tree.specs.Kinds.{number_of}
 use Rattle.zig_tree.specs.Grammar.{row, rule_rows}
-use Rattle.zig_tree.specs.GrammarSentences.{Pieces, next_kind, Derives, Sentence, Accepted, Begins, AreShallow, token_depths, height}
+use Rattle.zig_tree.specs.GrammarSentences.{Pieces, next_kind, Sentence, Accepted, Begins}
 use Rattle.zig_parse.specs.declared.choice.Look.{Look}
 use Rattle.zig_parse.specs.declared.thread.Thread.{Thread}
 use Rattle.zig_parse.specs.declared.state.State.{State}
@@ -24,13 +23,13 @@ use Rattle.zig_parse.specs.declared.fault.SyntaxFault.TheVariants.{Unexpected, T
 use Rattle.zig_parse.specs.Choices.{choices, matching}
 use Rattle.zig_parse.specs.Threads.{collapses, fresh, opened, put}
 use Rattle.zig_parse.specs.Passes.{alone, begun, verdict_of}
-use Rattle.zig_parse.specs.Surveys.{first_state, judged, kind_of, left_waiting, look_at, next_live, next_marks, next_state, next_verdict, read_live, read_waiting, surveyed}
+use Rattle.zig_parse.specs.Surveys.{first_state, judged, left_waiting, look_at, next_live, next_marks, next_state, next_verdict, read_live, read_waiting, surveyed}
 use Rattle.zig_parse.specs.Growth.{grown_from, parse_of, ◌>>=◌}
-use Rattle.zig_parse.specs.Trees.{HoldsAll, IsChosen, IsEnded, IsNotAccepted, IsRefusedFor, NotWithout, Spells, kinds_of}
+use Rattle.zig_parse.specs.Trees.{IsChosen, IsNotAccepted, IsRefusedFor, NotWithout, Spells, kinds_of}
 use Rattle.zig_parse.specs.Ways.{Fork, Sure}
 use Rattle.zig_parse.proofs.Preferred.{sentence_some}
 use Rattle.zig_parse.proofs.Surely.{sentence_sure}
-use Rattle.zig_parse.proofs.Paths.{Path, look_of}
+use Rattle.zig_parse.proofs.Paths.{look_of}
 use Rattle.zig_parse.proofs.SurePaths.{low_falls, low_in, sure_path, tree_low}
 use Rattle.zig_parse.proofs.Settling.{chosen_with}
 use Rattle.zig_parse.proofs.Following.{Accepts, Follows, Looks, alone_path, common_looks, looks_here, looks_next, refused_from, started, state_live, step_path, survey_follows}
@@ -43,7 +42,7 @@ use Rattle.zig_parse.proofs.Moving.{coming}
 use Rattle.zig_parse.proofs.Reading.{Reads, rule_made}
 use Rattle.zig_parse.proofs.Endings.{ends_before, may_follow}
 use Rattle.zig_parse.proofs.Lively.{GoesOn}
-use Rattle.zig_parse.proofs.Lasting.{Alive, Lasts, around_none}
+use Rattle.zig_parse.proofs.Lasting.{Lasts, around_none}
 use Rattle.zig_parse.proofs.LastingSteps.{lasts_live, lasts_next}
 use Rattle.zig_parse.proofs.LastingEnds.{some_ends}
 

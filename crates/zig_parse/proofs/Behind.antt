@@ -1,5 +1,5 @@
 -- A token is refused whatever stands behind it.
-use Rattle.std.proofs.Common.{◌≡◌, ℕ, zero, suc, ◌+◌, ◌<◌, ◌≤◌, Bool, true, false, ◌&&◌, ◌||◌, ◌⊎◌, inl, inr, List, [], ◌∷◌, ◌++◌, map, length, refl, sym, ◌∙◌, ap, subst, arith}
+use Rattle.std.proofs.Common.{◌≡◌, ℕ, zero, suc, ◌<◌, Bool, true, false, ◌&&◌, ◌||◌, ◌⊎◌, inl, inr, List, [], ◌∷◌, ◌++◌, map, length, refl, sym, ◌∙◌, ap, arith}
 use Rattle.std.specs.Prelude.{if◌then◌else◌, nat_lt, is_some, Option, Some, None}
 use Rattle.std.proofs.lemmas.Bool.{and_parts, le-ltb}
 use Rattle.zig_tree.specs.declared.token.TokenKind.{TokenKind}
@@ -22,11 +22,10 @@ use Rattle.zig_parse.specs.declared.thread.Thread.{Thread}
 use Rattle.zig_parse.specs.declared.thread.Move.{Move}
 use Rattle.zig_parse.specs.declared.thread.Move.TheVariants as move
 use Rattle.zig_parse.specs.declared.state.State.{State}
-use Rattle.zig_parse.specs.declared.survey.Verdict.{Verdict}
 use Rattle.zig_parse.specs.declared.survey.Verdict.TheVariants as verdict
 use Rattle.zig_parse.specs.Choices.{choices, matching, is_shared, first_parts, taken}
 use Rattle.zig_parse.specs.Moves.{apart_from, move_at, move_from, moves_for_all, moving, moving_by, next_move, readers, reading, reading_by, settled, settled_all, spread, waits_for}
-use Rattle.zig_parse.specs.Threads.{after_read, fresh, has_braces, is_apart, is_braced, item, met, opened, passed, put, replaced}
+use Rattle.zig_parse.specs.Threads.{after_read, fresh, has_braces, is_apart, is_braced, met, opened, passed, put, replaced}
 use Rattle.zig_parse.specs.Passes.{after_token, all_deep, any_waits, begun, begun_at, begun_by, begun_for, enclosed, finished, has_read_all, inside, is_among, is_closed, kept_with, least_from, part_choices, resumed_top, those_waiting, verdict_of}
 use Rattle.zig_parse.specs.Surveys.{entered, entered_waiting, left, next_live, next_verdict, read_live, read_waiting}
 use Rattle.zig_parse.proofs.Derived.{each_row}

@@ -1,5 +1,5 @@
 -- Whatever is to come can end: with the shortest tokens of its parts.
-use Rattle.std.proofs.Common.{◌≡◌, ℕ, zero, suc, ◌+◌, ◌<◌, ◌≤◌, Bool, true, false, ◌&&◌, ◌||◌, ◌⊎◌, inl, inr, List, [], ◌∷◌, ◌++◌, refl, sym, ◌∙◌, ap, subst, arith, append_assoc}
+use Rattle.std.proofs.Common.{◌≡◌, ℕ, zero, suc, ◌+◌, ◌<◌, ◌≤◌, Bool, true, false, ◌&&◌, inl, inr, List, [], ◌∷◌, ◌++◌, refl, sym, ◌∙◌, ap, subst, arith, append_assoc}
 use Rattle.std.specs.Prelude.{if◌then◌else◌, nat_lt}
 use Rattle.std.proofs.lemmas.Bool.{and_parts, or_cases, ltb-true, lt-ltb}
 use Rattle.zig_tree.specs.declared.token.TokenKind.{TokenKind}
@@ -18,11 +18,11 @@ use Rattle.zig_tree.specs.Kinds as kinds
 use Rattle.zig_tree.specs.Grammar.{Alternative, group_rows, holds, rule_rows}
 use Rattle.zig_tree.specs.GrammarSentences.{Pieces, nothing, word, followed, made, next_kind, second_kind, first_that_holds, with_shared, open_at, Among, Derives, derives_none, derives_token, derives_one_of, derives_group, derives_rule}
 use Rattle.zig_parse.specs.declared.choice.Look.{Look}
-use Rattle.zig_parse.proofs.Derived.{each_row, open_is_row, row_tested}
+use Rattle.zig_parse.proofs.Derived.{open_is_row, row_tested}
 use Rattle.zig_parse.proofs.Tables.{same_kind}
 use Rattle.zig_parse.proofs.Paths.{look_of}
 use Rattle.zig_parse.proofs.Behind.{Agree, agree_none, agree_more, agree_plain, group_plain}
-use Rattle.zig_parse.proofs.Endings.{after_group, after_rule, each_kind, ends_before, ends_well, first_or, is_in, is_low, may_follow, opens, opens_behind, opens_next, quick, quick_all, quick_depth, quick_depth_of_group, quick_depth_of_rule, quick_group, quick_row_of_group, quick_row_of_rule, quick_rule, row_ends_before, row_is_low, row_is_quick, is_sampled, same_kinds, sample}
+use Rattle.zig_parse.proofs.Endings.{after_group, after_rule, each_kind, ends_before, ends_well, first_or, is_in, is_low, may_follow, opens, opens_behind, opens_next, quick_all, quick_depth, quick_depth_of_group, quick_depth_of_rule, quick_group, quick_row_of_group, quick_row_of_rule, quick_rule, row_ends_before, row_is_low, row_is_quick, is_sampled, same_kinds, sample}
 use Rattle.zig_parse.proofs.EndingTests.{group_ends_well, group_rows_end, rule_ends_well, rule_rows_end}
 
 pub kind_among : (f : TokenKind → Bool) (k : TokenKind) (ks : List TokenKind) → is_in k ks ≡ true → each_kind f ks ≡ true → f k ≡ true

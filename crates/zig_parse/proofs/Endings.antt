@@ -1,6 +1,5 @@
 -- How parts end most quickly: the tokens of a shortest derivation, and which tokens may follow, as tables.
-use Rattle.std.specs.Prelude.{◌≡◌, ℕ, zero, suc, Bool, true, false, ◌&&◌, ◌||◌, nat_lt, if◌then◌else◌, List, [], ◌∷◌, ◌++◌}
-use Rattle.std.proofs.Common.{refl}
+use Rattle.std.specs.Prelude.{ℕ, zero, suc, Bool, true, false, ◌&&◌, ◌||◌, nat_lt, if◌then◌else◌, List, [], ◌∷◌, ◌++◌}
 use Rattle.zig_tree.specs.declared.token.TokenKind.{TokenKind}
 use Rattle.zig_tree.specs.declared.token.TokenKind.TheVariants as kind
 use Rattle.zig_tree.specs.declared.grammar.Rule.{Rule}
@@ -13,11 +12,9 @@ use Rattle.zig_tree.specs.declared.grammar.When.{When}
 use Rattle.zig_tree.specs.declared.grammar.When.TheVariants as when
 use Rattle.zig_tree.specs.declared.grammar.Part.{Part}
 use Rattle.zig_tree.specs.declared.grammar.Part.TheVariants as part
-use Rattle.zig_tree.specs.Kinds.{is_kind, has_kind, number_of}
-use Rattle.zig_tree.specs.Kinds as kinds
-use Rattle.zig_tree.specs.Grammar.{Alternative, group_rows, holds, rule_rows}
+use Rattle.zig_tree.specs.Kinds.{is_kind}
+use Rattle.zig_tree.specs.Grammar.{Alternative, holds}
 use Rattle.zig_tree.specs.GrammarSentences.{next_kind, second_kind}
-use Rattle.zig_parse.proofs.Derived.{each_row}
 
 -- a token of each class that alternatives name
 abbrev pub sample : TokenClass → TokenKind

@@ -1,5 +1,5 @@
 -- At a brace the threads that read what stands in it take the place of those that wait for its end.
-use Rattle.std.proofs.Common.{◌≡◌, ℕ, zero, suc, ◌+◌, ◌-◌, ◌<◌, ◌≤◌, Bool, true, false, ◌&&◌, ◌||◌, ◌⊎◌, inl, inr, List, [], ◌∷◌, ◌++◌, map, length, Option, Some, None, refl, sym, ◌∙◌, ap, subst, arith, append_assoc}
+use Rattle.std.proofs.Common.{◌≡◌, ℕ, ◌+◌, ◌≤◌, Bool, true, false, ◌&&◌, ◌||◌, List, [], ◌∷◌, ◌++◌, length, Option, Some, None, refl, sym, ◌∙◌, ap, subst, arith, append_assoc}
 use Rattle.std.specs.Prelude.{if◌then◌else◌, min, is_some, not, nat_lt}
 use Rattle.std.proofs.lemmas.Bool.{eq-eqb}
 use Rattle.zig_tree.specs.declared.token.TokenKind.{TokenKind}
@@ -9,26 +9,25 @@ use Rattle.zig_tree.specs.declared.grammar.Rule.TheVariants as rule
 use Rattle.zig_tree.specs.declared.grammar.Group.TheVariants as group
 use Rattle.zig_tree.specs.declared.grammar.Part.{Part}
 use Rattle.zig_tree.specs.declared.grammar.Part.TheVariants as part
-use Rattle.zig_tree.specs.Kinds.{is_kind, is_part, number_of_rule, number_of_group, number_of_class, number_of}
-use Rattle.zig_tree.specs.GrammarSentences.{Pieces, Derives}
+use Rattle.zig_tree.specs.Kinds.{is_part, number_of_rule, number_of_group, number_of_class, number_of}
+use Rattle.zig_tree.specs.GrammarSentences.{Derives}
 use Rattle.zig_parse.specs.declared.choice.Look.{Look}
 use Rattle.zig_parse.specs.declared.thread.Frame.{Frame}
 use Rattle.zig_parse.specs.declared.thread.Item.{Item}
 use Rattle.zig_parse.specs.declared.thread.Thread.{Thread}
 use Rattle.zig_parse.specs.declared.thread.Move.{Move}
 use Rattle.zig_parse.specs.declared.thread.Move.TheVariants as move
-use Rattle.zig_parse.specs.Threads.{after_read, hardened, is_never_alone, met, met_from, met_part, received}
-use Rattle.zig_parse.specs.Moves.{apart_from, move_from, next_move, settled_all, waits_for}
+use Rattle.zig_parse.specs.Threads.{after_read, hardened, is_never_alone, met, met_from, met_part}
+use Rattle.zig_parse.specs.Moves.{apart_from, move_from, next_move, waits_for}
 use Rattle.zig_parse.specs.Passes.{any_waits, begun, begun_at, begun_for, depth_for, inside, least_from, least_with, own_height, those_waiting, waiting_by, wants}
-use Rattle.zig_parse.proofs.Derived.{no_longer}
 use Rattle.zig_parse.proofs.Tables.{same_kind}
 use Rattle.zig_parse.specs.Ways.{Fork}
 use Rattle.zig_parse.proofs.Paths.{Path, path_ends, path_closes, path_rule, path_group, path_reads, path_waits, look_of, parts_of_items}
-use Rattle.zig_parse.proofs.Tidy.{tidy, tidy_no_brace, is_kind_same}
-use Rattle.zig_parse.proofs.Moving.{coming, Each, each_at, each_joined, each_kept, met_part_keeps, read_keeps, reads_front, waits_front, waits_brace}
-use Rattle.zig_parse.proofs.Opening.{Five, five_block, five_initializer, five_body, five_errors, five_switch, apart_five, opens, path_derives}
+use Rattle.zig_parse.proofs.Tidy.{tidy}
+use Rattle.zig_parse.proofs.Moving.{Each, each_joined, met_part_keeps, waits_brace}
+use Rattle.zig_parse.proofs.Opening.{Five, five_block, five_initializer, five_body, five_errors, five_switch}
 use Rattle.zig_parse.proofs.Settling.{Dead}
-use Rattle.zig_parse.proofs.Living.{Around, in_brace, Good, Gone, Readable, read_gone, read_dead, begun_gone}
+use Rattle.zig_parse.proofs.Living.{Good}
 
 -- ---- lists of threads
 

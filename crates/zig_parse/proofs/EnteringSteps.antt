@@ -1,22 +1,20 @@
 -- From the state between two tokens to the threads that have the next token in front.
-use Rattle.std.proofs.Common.{◌≡◌, ℕ, zero, suc, ◌+◌, ◌-◌, ◌<◌, ◌≤◌, Bool, true, false, ◌&&◌, ◌||◌, ◌⊎◌, inl, inr, List, [], ◌∷◌, ◌++◌, map, length, Option, Some, None, refl, sym, ◌∙◌, ap, subst, arith, append_assoc}
+use Rattle.std.proofs.Common.{◌≡◌, ℕ, zero, suc, ◌+◌, ◌-◌, ◌<◌, ◌≤◌, Bool, true, false, ◌⊎◌, inl, inr, List, [], ◌∷◌, ◌++◌, length, Some, None, refl, sym, ◌∙◌, ap, subst, arith, append_assoc}
 use Rattle.std.specs.Prelude.{if◌then◌else◌}
 use Rattle.zig_tree.specs.declared.token.TokenKind.{TokenKind}
 use Rattle.zig_tree.specs.declared.token.TokenKind.TheVariants as kind
 use Rattle.zig_tree.specs.declared.grammar.Part.{Part}
-use Rattle.zig_tree.specs.declared.grammar.Part.TheVariants as part
 use Rattle.zig_tree.specs.Kinds.{number_of}
-use Rattle.zig_tree.specs.GrammarSentences.{Pieces, Derives}
 use Rattle.zig_parse.specs.declared.thread.Thread.{Thread}
 use Rattle.zig_parse.specs.declared.thread.Move.TheVariants as move
 use Rattle.zig_parse.specs.Threads.{after_read, met_part, received}
 use Rattle.zig_parse.specs.Moves.{next_move, settled_all, waits_for}
-use Rattle.zig_parse.specs.Passes.{any_waits, begun, begun_at, begun_for, depth_for, inside, least_from, own_height, those_waiting}
+use Rattle.zig_parse.specs.Passes.{any_waits, begun, begun_at, begun_for, inside, least_from, own_height, those_waiting}
 use Rattle.zig_parse.specs.Surveys.{entered, entered_waiting}
 use Rattle.zig_parse.proofs.Derived.{no_longer}
 use Rattle.zig_parse.specs.Ways.{Fork, noted}
-use Rattle.zig_parse.proofs.Paths.{Path, path_ends, path_closes, path_rule, path_group, path_reads, path_waits, look_of, parts_of_items}
-use Rattle.zig_parse.proofs.Tidy.{tidy, tidy_no_brace, is_kind_same}
+use Rattle.zig_parse.proofs.Paths.{Path, path_ends, path_closes, path_rule, path_group, path_reads, path_waits, look_of}
+use Rattle.zig_parse.proofs.Tidy.{tidy, tidy_no_brace}
 use Rattle.zig_parse.proofs.Moving.{coming, Each, each_at, each_kept, met_part_keeps, read_keeps, reads_front, waits_front}
 use Rattle.zig_parse.proofs.Opening.{Five, apart_five, opens, path_derives}
 use Rattle.zig_parse.proofs.Settling.{Dead, chosen_with}

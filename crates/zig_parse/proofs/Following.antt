@@ -1,6 +1,6 @@
 -- The first pass follows a path: it accepts the tokens, marks the path's choices, and refuses no front of them.
-use Rattle.std.proofs.Common.{◌≡◌, ℕ, zero, suc, ◌+◌, ◌-◌, ◌<◌, ◌≤◌, Bool, true, false, ◌⊎◌, inl, inr, List, [], ◌∷◌, ◌++◌, map, length, drop, take, Option, Some, None, Result, Ok, Err, refl, sym, ◌∙◌, ap, subst, arith}
-use Rattle.std.specs.Prelude.{replicate, slice_get}
+use Rattle.std.proofs.Common.{◌≡◌, ℕ, zero, suc, ◌+◌, ◌<◌, ◌≤◌, Bool, true, false, ◌⊎◌, inl, inr, List, [], ◌∷◌, ◌++◌, length, drop, take, Result, Ok, Err, refl, sym, ◌∙◌, ap, subst, arith}
+use Rattle.std.specs.Prelude.{replicate}
 use Rattle.zig_tree.specs.declared.token.Token.{Token}
 use Rattle.zig_tree.specs.declared.token.TokenKind.{TokenKind}
 use Rattle.zig_tree.specs.declared.token.TokenKind.TheVariants as kind
@@ -11,7 +11,7 @@ use Rattle.zig_tree.specs.declared.grammar.Part.{Part}
 use Rattle.zig_tree.specs.declared.grammar.Part.TheVariants as part
 use Rattle.zig_tree.specs.Kinds.{number_of}
 use Rattle.zig_tree.specs.Grammar.{row, rule_rows}
-use Rattle.zig_tree.specs.GrammarSentences.{Pieces, nothing, followed, made, Derives, derives_none, derives_rule}
+use Rattle.zig_tree.specs.GrammarSentences.{nothing, followed, made, derives_none, derives_rule}
 use Rattle.zig_parse.specs.declared.choice.Look.{Look}
 use Rattle.zig_parse.specs.declared.thread.Thread.{Thread}
 use Rattle.zig_parse.specs.declared.state.State.{State}
@@ -23,23 +23,21 @@ use Rattle.zig_parse.specs.Threads.{collapses, fresh, opened, put}
 use Rattle.zig_parse.specs.Moves.{settled_all}
 use Rattle.zig_parse.specs.Choices.{choices, matching}
 use Rattle.zig_parse.specs.Passes.{after_token, alone, begun, marked, marked_alone, verdict_of}
-use Rattle.zig_parse.specs.Surveys.{entered, entered_waiting, first_state, judged, kind_of, left, left_waiting, look_at, next_live, next_marks, next_state, next_verdict, read_live, read_waiting, surveyed}
+use Rattle.zig_parse.specs.Surveys.{entered, entered_waiting, first_state, judged, look_at, next_live, next_marks, next_state, next_verdict, read_live, read_waiting, surveyed}
 use Rattle.zig_parse.specs.Growth.{is_second}
 use Rattle.zig_parse.specs.Trees.{kinds_of}
 use Rattle.zig_parse.proofs.Spelled.{look_here}
-use Rattle.zig_parse.proofs.Derived.{no_longer}
 use Rattle.zig_parse.specs.Ways.{Fork, noted}
-use Rattle.zig_parse.proofs.Paths.{Path, look_of, parts_of_items}
-use Rattle.zig_parse.proofs.Tidy.{tidy}
+use Rattle.zig_parse.proofs.Paths.{Path, look_of}
 use Rattle.zig_parse.proofs.Free.{own, path_own}
-use Rattle.zig_parse.proofs.Moving.{coming, Each}
+use Rattle.zig_parse.proofs.Moving.{coming}
 use Rattle.zig_parse.proofs.Opening.{path_derives}
-use Rattle.zig_parse.proofs.Settling.{Dead, chosen_with}
-use Rattle.zig_parse.proofs.Living.{Around, at_root, Good, tidy_shorter}
+use Rattle.zig_parse.proofs.Settling.{chosen_with}
+use Rattle.zig_parse.proofs.Living.{at_root, Good, tidy_shorter}
 use Rattle.zig_parse.proofs.Tracking.{Tracked}
-use Rattle.zig_parse.proofs.EnteringSteps.{Entered, enter_path, falls_to}
-use Rattle.zig_parse.proofs.Leaving.{after_path, leave_path, LeftOff, Ended}
-use Rattle.zig_parse.proofs.Marks.{Open, Noted, Agree, marked_joined, marked_length, chosen_noted, noted_open, agree_noted, open_first}
+use Rattle.zig_parse.proofs.EnteringSteps.{enter_path, falls_to}
+use Rattle.zig_parse.proofs.Leaving.{after_path, leave_path, LeftOff}
+use Rattle.zig_parse.proofs.Marks.{Open, Noted, Agree, marked_joined, chosen_noted, noted_open, agree_noted, open_first}
 
 -- ---- a token
 

@@ -1,5 +1,5 @@
 -- A path says nothing of the choices that its thread made.
-use Rattle.std.proofs.Common.{◌≡◌, ℕ, suc, ◌+◌, ◌-◌, ◌≤◌, Bool, true, false, ◌&&◌, ◌||◌, List, [], ◌∷◌, ◌++◌, length, Option, Some, None, refl, sym, ◌∙◌, ap, subst}
+use Rattle.std.proofs.Common.{◌≡◌, ℕ, ◌+◌, ◌-◌, ◌≤◌, Bool, true, false, ◌&&◌, ◌||◌, List, [], ◌∷◌, length, Some, None, refl, sym, ◌∙◌, ap, subst}
 use Rattle.std.specs.Prelude.{if◌then◌else◌, not, nat_lt}
 use Rattle.zig_tree.specs.declared.token.TokenKind.{TokenKind}
 use Rattle.zig_tree.specs.declared.token.TokenKind.TheVariants as kind
@@ -11,7 +11,7 @@ use Rattle.zig_parse.specs.declared.thread.Thread.{Thread}
 use Rattle.zig_parse.specs.Threads.{after_read, closed, closed_from, hardened, is_deep, is_never_alone, met, met_from, met_part, opened, passed, put, received, replaced, touched_from, with_gain}
 use Rattle.zig_parse.specs.Moves.{next_move, waits_for}
 use Rattle.zig_parse.specs.Passes.{own_height}
-use Rattle.zig_parse.specs.Ways.{Fork, noted}
+use Rattle.zig_parse.specs.Ways.{Fork}
 use Rattle.zig_parse.proofs.Paths.{Path, path_ends, path_closes, path_rule, path_group, path_reads, path_waits, is_cons}
 
 -- the thread with these choices

@@ -1,5 +1,5 @@
 -- Which threads are kept of those that go on in the same way.
-use Rattle.std.proofs.Common.{◌≡◌, ℕ, ◌+◌, Bool, true, false, ◌&&◌, ◌||◌, List, [], ◌∷◌, ◌++◌, map, reverse, Option, Some, None, refl, sym, ◌∙◌, ap, subst, append_assoc, append-nil}
+use Rattle.std.proofs.Common.{◌≡◌, Bool, true, false, ◌||◌, List, [], ◌∷◌, ◌++◌, map, reverse, Option, Some, None, refl, sym, ◌∙◌, ap, subst, append_assoc, append-nil}
 use Rattle.std.specs.Prelude.{if◌then◌else◌}
 use Rattle.std.proofs.lemmas.Bool.{and_parts}
 use Rattle.std.proofs.lemmas.List.{reverse-append}
@@ -16,7 +16,7 @@ use Rattle.zig_parse.specs.Passes.{after_token, is_among, kept_with, result_for,
 use Rattle.zig_parse.proofs.Paths.{parts_of_items}
 use Rattle.zig_parse.proofs.SameParts.{same_part}
 use Rattle.zig_parse.proofs.Moving.{coming, Each, each_joined}
-use Rattle.zig_parse.proofs.Settling.{Lost, Dead}
+use Rattle.zig_parse.proofs.Settling.{Dead}
 
 -- ---- threads with the same to come
 

@@ -1,39 +1,33 @@
 -- As long as a thread is left, some sentence begins with the tokens so far: what is to come in the thread, and
 -- in those that wait for it, can end.
-use Rattle.std.proofs.Common.{◌≡◌, ℕ, Bool, true, false, ◌&&◌, ◌||◌, ◌⊎◌, inl, inr, List, [], ◌∷◌, ◌++◌, map, Option, Some, None, refl, sym, ◌∙◌, ap, subst, append_assoc}
-use Rattle.std.specs.Prelude.{if◌then◌else◌, is_some}
+use Rattle.std.proofs.Common.{◌≡◌, ℕ, Bool, true, false, ◌⊎◌, inl, inr, List, [], ◌∷◌, ◌++◌, Option, Some, None, refl, sym, ◌∙◌, ap, subst, append_assoc}
+use Rattle.std.specs.Prelude.{if◌then◌else◌}
 use Rattle.std.proofs.lemmas.Bool.{and_parts}
 use Rattle.zig_tree.specs.declared.token.TokenKind.{TokenKind}
 use Rattle.zig_tree.specs.declared.token.TokenKind.TheVariants as kind
 use Rattle.zig_tree.specs.declared.grammar.Rule.TheVariants as rule
 use Rattle.zig_tree.specs.declared.grammar.Group.TheVariants as group
-use Rattle.zig_tree.specs.declared.grammar.TokenClass.TheVariants as class
 use Rattle.zig_tree.specs.declared.grammar.Part.{Part}
 use Rattle.zig_tree.specs.declared.grammar.Part.TheVariants as part
-use Rattle.zig_tree.specs.Kinds.{is_kind, is_part, number_of}
-use Rattle.zig_tree.specs.GrammarSentences.{Pieces, word, next_kind, derives_token}
+use Rattle.zig_tree.specs.Kinds.{is_kind, number_of}
+use Rattle.zig_tree.specs.GrammarSentences.{word, next_kind, derives_token}
 use Rattle.zig_parse.specs.declared.choice.Look.{Look}
 use Rattle.zig_parse.specs.declared.thread.Item.{Item}
 use Rattle.zig_parse.specs.declared.thread.Thread.{Thread}
 use Rattle.zig_parse.specs.declared.thread.Move.TheVariants as move
-use Rattle.zig_parse.specs.declared.survey.Finished.{Finished}
-use Rattle.zig_parse.specs.declared.state.State.{State}
 use Rattle.zig_parse.specs.Stack.{rest}
-use Rattle.zig_parse.specs.Threads.{after_read, is_apart, met_part, received, with_choices}
+use Rattle.zig_parse.specs.Threads.{after_read, met_part}
 use Rattle.zig_parse.specs.Moves.{moving, next_move, settled_all, waits_for}
-use Rattle.zig_parse.specs.Passes.{after_token, alone, any_waits, begun, begun_at, begun_for, finished, has_read_all, inside, is_closed, is_wanted, least_from, least_with, depth_for, result_for, resumed, resumed_top, those_waiting, waiting_by, wants}
-use Rattle.zig_parse.specs.Surveys.{entered, entered_waiting, left, left_waiting, next_live, next_state, read_live, read_waiting}
-use Rattle.zig_parse.proofs.Derived.{token_derived}
+use Rattle.zig_parse.specs.Passes.{begun, is_wanted, least_from, least_with, depth_for, those_waiting, waiting_by, wants}
 use Rattle.zig_parse.proofs.Tables.{same_kind}
 use Rattle.zig_parse.proofs.SameParts.{same_part}
-use Rattle.zig_parse.proofs.Paths.{look_of, parts_of_items}
-use Rattle.zig_parse.proofs.Reading.{Reads, joined_read}
-use Rattle.zig_parse.proofs.Tidy.{tidy, tidy_read, tidy_apart, Fits, Left, is_closing, closer}
-use Rattle.zig_parse.proofs.Moving.{coming, Each, Comes, each_joined, each_kept, fits_derives, met_part_keeps, moving_come, read_keeps, reads_front, received_keeps, settled_each, waits_brace, waits_front}
-use Rattle.zig_parse.proofs.Opening.{Five, five_block, five_initializer, five_body, five_errors, five_switch, apart_five, body, opens}
-use Rattle.zig_parse.proofs.Keeping.{all_go_on, goes_on, goes_on_by, keep_all, keep_each, resumed_as, token_as}
+use Rattle.zig_parse.proofs.Paths.{parts_of_items}
+use Rattle.zig_parse.proofs.Reading.{Reads}
+use Rattle.zig_parse.proofs.Tidy.{tidy, tidy_read, Fits, Left, is_closing}
+use Rattle.zig_parse.proofs.Moving.{coming, Each, Comes, each_kept, fits_derives, met_part_keeps, moving_come, read_keeps, reads_front, settled_each, waits_brace}
+use Rattle.zig_parse.proofs.Opening.{Five, five_block, five_initializer, five_body, five_errors, five_switch, body, opens}
 use Rattle.zig_parse.proofs.Entering.{each_both, met_waits}
-use Rattle.zig_parse.proofs.Endings.{ends_before, first_or, may_follow, quick, quick_all}
+use Rattle.zig_parse.proofs.Endings.{ends_before, first_or, may_follow, quick_all}
 use Rattle.zig_parse.proofs.Lively.{Ended, GoesOn, GoesOnPlain, Lively, Midway, Typed, is_colon, midway, typed_atom, typed_suffix, typed_type, typed_word}
 use Rattle.zig_parse.proofs.LivelyMoves.{Moves, moving_moves}
 

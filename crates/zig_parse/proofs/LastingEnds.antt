@@ -1,7 +1,7 @@
 -- What is to come in a thread that is left, and in those that wait for it, can end: so a sentence begins with
 -- the tokens so far.
-use Rattle.std.proofs.Common.{◌≡◌, ℕ, zero, suc, ◌+◌, Bool, true, false, ◌&&◌, ◌||◌, ◌⊎◌, inl, inr, List, [], ◌∷◌, ◌++◌, Option, Some, refl, sym, ◌∙◌, ap, subst, append_assoc}
-use Rattle.std.specs.Prelude.{if◌then◌else◌, not}
+use Rattle.std.proofs.Common.{◌≡◌, true, false, ◌⊎◌, inl, inr, List, [], ◌∷◌, ◌++◌, Option, Some, refl, sym, ◌∙◌, ap, subst, append_assoc}
+use Rattle.std.specs.Prelude.{not}
 use Rattle.std.proofs.lemmas.Bool.{and_parts, not-true}
 use Rattle.zig_tree.specs.declared.token.TokenKind.{TokenKind}
 use Rattle.zig_tree.specs.declared.token.TokenKind.TheVariants as kind
@@ -9,7 +9,7 @@ use Rattle.zig_tree.specs.declared.grammar.Rule.TheVariants as rule
 use Rattle.zig_tree.specs.declared.grammar.Group.TheVariants as group
 use Rattle.zig_tree.specs.declared.grammar.Part.{Part}
 use Rattle.zig_tree.specs.declared.grammar.Part.TheVariants as part
-use Rattle.zig_tree.specs.Kinds.{is_kind, number_of}
+use Rattle.zig_tree.specs.Kinds.{number_of}
 use Rattle.zig_tree.specs.GrammarSentences.{nothing, word, next_kind, derives_none, derives_token}
 use Rattle.zig_parse.specs.declared.thread.Thread.{Thread}
 use Rattle.zig_parse.specs.Stack.{rest}
@@ -21,8 +21,8 @@ use Rattle.zig_parse.proofs.Tidy.{tidy, is_last, is_plain}
 use Rattle.zig_parse.proofs.Moving.{coming, Each, waits_front}
 use Rattle.zig_parse.proofs.Endings.{after_group, each_kind, ends_before, first_or, is_in, may_follow, quick, quick_all}
 use Rattle.zig_parse.proofs.Completing.{can_end, kind_among}
-use Rattle.zig_parse.proofs.Lively.{Ended, GoesOn, GoesOnPlain, Lively, is_colon}
-use Rattle.zig_parse.proofs.Lasting.{Alive, Around, around_none, around_brace, In, Lasts, Starts, Waits, Wanted, is_file}
+use Rattle.zig_parse.proofs.Lively.{GoesOn, GoesOnPlain, Lively, is_colon}
+use Rattle.zig_parse.proofs.Lasting.{Alive, Around, around_none, around_brace, In, Lasts, Starts, Waits, Wanted}
 
 -- ---- the end of the file
 

@@ -1,5 +1,5 @@
 -- What is known of the threads that are left stays with each token.
-use Rattle.std.proofs.Common.{◌≡◌, ℕ, Bool, true, false, ◌&&◌, ◌||◌, ◌⊎◌, inl, inr, List, [], ◌∷◌, ◌++◌, map, Option, Some, None, refl, sym, ◌∙◌, ap, subst, append_assoc, append-nil}
+use Rattle.std.proofs.Common.{◌≡◌, ℕ, Bool, true, false, ◌||◌, ◌⊎◌, inl, inr, List, [], ◌∷◌, ◌++◌, map, Option, Some, None, refl, sym, ◌∙◌, ap, subst, append_assoc}
 use Rattle.std.specs.Prelude.{if◌then◌else◌, is_some}
 use Rattle.std.proofs.lemmas.Bool.{and_parts}
 use Rattle.zig_tree.specs.declared.token.TokenKind.{TokenKind}
@@ -17,19 +17,19 @@ use Rattle.zig_parse.specs.declared.state.State.{State}
 use Rattle.zig_parse.specs.Stack.{rest}
 use Rattle.zig_parse.specs.Threads.{after_read, received, with_choices}
 use Rattle.zig_parse.specs.Moves.{settled_all, waits_for}
-use Rattle.zig_parse.specs.Passes.{after_token, alone, any_waits, begun, begun_at, begun_for, finished, has_read_all, inside, is_closed, least_from, result_for, resumed, resumed_top, those_waiting}
+use Rattle.zig_parse.specs.Passes.{after_token, alone, any_waits, begun_at, begun_for, finished, has_read_all, inside, is_closed, least_from, result_for, resumed_top, those_waiting}
 use Rattle.zig_parse.specs.Surveys.{entered, entered_waiting, left, left_waiting, next_live, next_state, read_live, read_waiting}
 use Rattle.zig_parse.proofs.Tables.{same_kind}
 use Rattle.zig_parse.proofs.SameParts.{same_part}
 use Rattle.zig_parse.proofs.Paths.{parts_of_items}
 use Rattle.zig_parse.proofs.Reading.{Reads, joined_read}
-use Rattle.zig_parse.proofs.Tidy.{tidy, tidy_apart, Left, is_closing, closer}
+use Rattle.zig_parse.proofs.Tidy.{tidy, tidy_apart, Left, is_closing}
 use Rattle.zig_parse.proofs.Moving.{coming, Each, each_joined, each_kept, received_keeps, waits_brace, waits_front}
 use Rattle.zig_parse.proofs.Opening.{Five, five_block, five_initializer, five_body, five_errors, five_switch}
-use Rattle.zig_parse.proofs.Keeping.{all_go_on, goes_on, goes_on_by, keep_all, keep_each, resumed_as, token_as}
+use Rattle.zig_parse.proofs.Keeping.{all_go_on, goes_on, goes_on_by, keep_each, resumed_as, token_as}
 use Rattle.zig_parse.proofs.Endings.{ends_before, first_or, may_follow, quick_all}
 use Rattle.zig_parse.proofs.Lively.{Ended, GoesOn, GoesOnPlain, Lively, is_colon}
-use Rattle.zig_parse.proofs.Lasting.{Alive, Around, around_none, around_brace, Gone, In, Lasts, Ready, Starts, Waits, Wanted, all_ready, begun_alive, gone_alive, is_file, least_wanted, ready_gone, waiting_all}
+use Rattle.zig_parse.proofs.Lasting.{Alive, Around, around_none, around_brace, Gone, Lasts, Ready, Starts, Waits, Wanted, all_ready, begun_alive, gone_alive, is_file, least_wanted, ready_gone, waiting_all}
 
 -- ---- the token is read
 

@@ -1,5 +1,5 @@
 -- After a token the first pass has the thread of the path still, also where the token ends a brace.
-use Rattle.std.proofs.Common.{◌≡◌, ℕ, zero, suc, ◌+◌, ◌-◌, ◌<◌, ◌≤◌, Bool, true, false, ◌&&◌, ◌||◌, ◌⊎◌, inl, inr, List, [], ◌∷◌, ◌++◌, map, length, reverse, Option, Some, None, refl, sym, ◌∙◌, ap, subst, arith, append_assoc, append-nil}
+use Rattle.std.proofs.Common.{◌≡◌, ℕ, ◌+◌, Bool, true, false, ◌&&◌, ◌||◌, ◌⊎◌, inl, inr, List, [], ◌∷◌, ◌++◌, map, length, reverse, Option, Some, None, refl, sym, ◌∙◌, ap, subst, arith, append_assoc, append-nil}
 use Rattle.std.specs.Prelude.{if◌then◌else◌, nat_eq}
 use Rattle.std.proofs.lemmas.Bool.{and_from}
 use Rattle.zig_tree.specs.declared.token.TokenKind.{TokenKind}
@@ -15,12 +15,12 @@ use Rattle.zig_parse.specs.declared.thread.Item.{Item}
 use Rattle.zig_parse.specs.declared.thread.Thread.{Thread}
 use Rattle.zig_parse.specs.declared.survey.Finished.{Finished}
 use Rattle.zig_parse.specs.Stack.{rest}
-use Rattle.zig_parse.specs.Threads.{after_read, is_apart, received, risen, with_choices}
+use Rattle.zig_parse.specs.Threads.{after_read, received, risen, with_choices}
 use Rattle.zig_parse.specs.Moves.{waits_for}
 use Rattle.zig_parse.specs.declared.thread.Move.TheVariants as move
 use Rattle.zig_parse.specs.declared.survey.Verdict.TheVariants as verdict
 use Rattle.zig_parse.specs.Moves.{move_from, next_move, same_future, same_parts}
-use Rattle.zig_parse.specs.Passes.{after_token, all_deep, finished, is_among, kept_with, verdict_of, has_read_all, is_closed, own_height, result_for, resumed}
+use Rattle.zig_parse.specs.Passes.{after_token, all_deep, finished, is_among, verdict_of, has_read_all, is_closed, own_height, result_for, resumed}
 use Rattle.zig_parse.specs.Surveys.{left, left_waiting}
 use Rattle.zig_parse.proofs.Derived.{joined_derived}
 use Rattle.zig_parse.proofs.Tables.{same_kind}
@@ -32,7 +32,7 @@ use Rattle.zig_parse.proofs.Free.{own, path_own, read_own}
 use Rattle.zig_parse.proofs.Moving.{coming, Each, each_at, each_joined, each_kept, read_keeps, received_keeps, waits_front}
 use Rattle.zig_parse.proofs.Opening.{path_derives}
 use Rattle.zig_parse.proofs.Settling.{Dead}
-use Rattle.zig_parse.proofs.Keeping.{keep_all, keep_each, keeps_it, Kept, token_as, resumed_as, all_go_on, goes_on_by, goes_on, go_on_joined}
+use Rattle.zig_parse.proofs.Keeping.{keep_all, keep_each, keeps_it, token_as, resumed_as, all_go_on, goes_on_by, goes_on, go_on_joined}
 use Rattle.zig_parse.proofs.Living.{Around, at_root, in_brace, Good, Gone, tidy_shorter}
 use Rattle.zig_parse.proofs.Tracking.{Tracked, AtToken}
 use Rattle.zig_parse.proofs.Entering.{each_both, each_front, part_is}

@@ -1,7 +1,6 @@
 -- A thread of the first pass can end: what it has read makes, with whatever its parts to come derive, the part
 -- that it was begun for.
-use Rattle.std.proofs.Common.{◌≡◌, Bool, true, false, ◌&&◌, ◌⊎◌, inl, inr, List, [], ◌∷◌, ◌++◌, refl, sym, ◌∙◌, ap, subst, append_assoc}
-use Rattle.std.specs.Prelude.{if◌then◌else◌}
+use Rattle.std.proofs.Common.{◌≡◌, Bool, true, false, ◌⊎◌, inl, inr, List, [], ◌∷◌, ◌++◌, refl, sym, ◌∙◌, ap, append_assoc}
 use Rattle.std.proofs.lemmas.Bool.{and_parts, and_from}
 use Rattle.zig_tree.specs.declared.token.TokenKind.{TokenKind}
 use Rattle.zig_tree.specs.declared.token.TokenKind.TheVariants as kind
@@ -13,10 +12,10 @@ use Rattle.zig_tree.specs.declared.grammar.TokenClass.TheVariants as class
 use Rattle.zig_tree.specs.declared.grammar.Part.{Part}
 use Rattle.zig_tree.specs.declared.grammar.Part.TheVariants as part
 use Rattle.zig_tree.specs.Kinds.{is_kind}
-use Rattle.zig_tree.specs.Grammar.{Alternative, group_rows, holds, rule_rows}
+use Rattle.zig_tree.specs.Grammar.{Alternative, group_rows, rule_rows}
 use Rattle.zig_tree.specs.declared.grammar.When.{When}
 use Rattle.zig_tree.specs.declared.grammar.When.TheVariants as when
-use Rattle.zig_tree.specs.GrammarSentences.{next_kind, second_kind, first_that_holds, with_shared, open_at, Among}
+use Rattle.zig_tree.specs.GrammarSentences.{next_kind, first_that_holds, with_shared, open_at, Among}
 use Rattle.zig_parse.specs.declared.choice.Look.{Look}
 use Rattle.zig_parse.proofs.Derived.{row_tested}
 use Rattle.zig_parse.proofs.Reading.{Reads}

@@ -14,7 +14,7 @@ use Rattle.zig_tree.specs.declared.grammar.Part.TheVariants as part
 use Rattle.zig_tree.specs.Kinds.{is_kind, number_of}
 use Rattle.zig_tree.specs.Kinds as kinds
 use Rattle.zig_tree.specs.Grammar.{Alternative, group_rows, row, rule_rows}
-use Rattle.zig_tree.specs.GrammarSentences.{next_kind, second_kind, open_at, Among}
+use Rattle.zig_tree.specs.GrammarSentences.{next_kind, open_at, Among}
 use Rattle.zig_parse.specs.declared.choice.Look.{Look}
 use Rattle.zig_parse.specs.declared.thread.Thread.{Thread}
 use Rattle.zig_parse.specs.declared.thread.Move.{Move}
@@ -29,8 +29,8 @@ use Rattle.zig_parse.proofs.Paths.{look_of, parts_of_items}
 use Rattle.zig_parse.proofs.Reading.{Reads, split_read, joined_read, rule_made, group_made}
 use Rattle.zig_parse.proofs.Tidy.{tidy, rule_tidy, group_tidy}
 use Rattle.zig_parse.proofs.Moving.{coming, Each, chosen_move, closed_keeps, group_coming, group_goal, group_in_front, rule_coming, rule_goal, rule_in_front, spread_each}
-use Rattle.zig_parse.proofs.Behind.{Agree, agree_other, agree_plain, group_plain, is_no_label, rule_plain}
-use Rattle.zig_parse.proofs.Lively.{Ended, GoesOn, GoesOnAt, GoesOnPlain, GoesOnPlainAt, Lively, Midway, Typed, group_ended, is_colon, open_same, rule_ended, typed_atom, typed_suffix, typed_type, typed_word}
+use Rattle.zig_parse.proofs.Behind.{agree_other, agree_plain, group_plain, is_no_label, rule_plain}
+use Rattle.zig_parse.proofs.Lively.{GoesOnAt, GoesOnPlainAt, Midway, Typed, group_ended, is_colon, open_same, rule_ended, typed_atom, typed_suffix, typed_type, typed_word}
 
 -- ---- the parts of an alternative, and later ones
 

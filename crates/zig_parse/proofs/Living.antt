@@ -1,6 +1,6 @@
 -- What holds of the threads in a brace, before and after a token, and of those that wait around it.
-use Rattle.std.proofs.Common.{◌≡◌, ℕ, zero, suc, ◌+◌, ◌-◌, ◌<◌, ◌≤◌, Bool, true, false, ◌&&◌, ◌||◌, ◌⊎◌, inl, inr, List, [], ◌∷◌, ◌++◌, map, length, Option, Some, None, refl, sym, ◌∙◌, ap, subst, arith}
-use Rattle.std.specs.Prelude.{if◌then◌else◌, not}
+use Rattle.std.proofs.Common.{◌≡◌, ℕ, ◌+◌, ◌<◌, Bool, true, false, ◌&&◌, ◌⊎◌, inr, List, [], ◌∷◌, ◌++◌, length, Some, None, refl, sym, ◌∙◌, ap, subst, arith}
+use Rattle.std.specs.Prelude.{not}
 use Rattle.std.proofs.lemmas.Bool.{and_parts}
 use Rattle.zig_tree.specs.declared.token.TokenKind.{TokenKind}
 use Rattle.zig_tree.specs.declared.token.TokenKind.TheVariants as kind
@@ -9,7 +9,7 @@ use Rattle.zig_tree.specs.declared.grammar.Group.{Group}
 use Rattle.zig_tree.specs.declared.grammar.Group.TheVariants as group
 use Rattle.zig_tree.specs.declared.grammar.Part.{Part}
 use Rattle.zig_tree.specs.declared.grammar.Part.TheVariants as part
-use Rattle.zig_tree.specs.Kinds.{is_kind, number_of}
+use Rattle.zig_tree.specs.Kinds.{number_of}
 use Rattle.zig_tree.specs.Grammar.{group_rows}
 use Rattle.zig_tree.specs.GrammarSentences.{Pieces, word, Derives}
 use Rattle.zig_parse.specs.declared.thread.Item.{Item}
@@ -24,7 +24,7 @@ use Rattle.zig_parse.proofs.Shapes.{row_fills}
 use Rattle.zig_parse.proofs.Balance.{reads_some}
 use Rattle.zig_parse.specs.Ways.{Fork}
 use Rattle.zig_parse.proofs.Paths.{Path, look_of, parts_of_items}
-use Rattle.zig_parse.proofs.Tidy.{tidy, is_last, is_body, is_plain, is_closing, closer, Left, tidy_read}
+use Rattle.zig_parse.proofs.Tidy.{tidy, is_last, is_body, is_plain, Left, tidy_read}
 use Rattle.zig_parse.proofs.Moving.{coming, Each, each_kept, Comes, moving_come, settled_each, read_keeps, reads_front, fits_derives}
 use Rattle.zig_parse.proofs.Opening.{Five, five_block, five_initializer, five_body, five_errors, five_switch, body, opens}
 use Rattle.zig_parse.proofs.Settling.{Dead}

@@ -1,5 +1,5 @@
 -- What a thread of the first pass has to come, before and after its moves, and what that derives.
-use Rattle.std.proofs.Common.{◌≡◌, ℕ, zero, suc, ◌+◌, ◌<◌, ◌≤◌, Bool, true, false, ◌&&◌, ◌||◌, ◌⊎◌, inl, inr, List, [], ◌∷◌, ◌++◌, map, length, Option, Some, None, refl, sym, ◌∙◌, ap, subst, arith}
+use Rattle.std.proofs.Common.{◌≡◌, ℕ, zero, suc, Bool, true, false, ◌&&◌, ◌||◌, inl, inr, List, [], ◌∷◌, ◌++◌, map, length, Option, Some, None, refl, sym, ◌∙◌, ap, subst}
 use Rattle.std.specs.Prelude.{if◌then◌else◌, not, nat_lt}
 use Rattle.zig_tree.specs.declared.token.TokenKind.{TokenKind}
 use Rattle.zig_tree.specs.declared.token.TokenKind.TheVariants as kind
@@ -19,7 +19,6 @@ use Rattle.zig_parse.specs.declared.thread.Move.TheVariants as move
 use Rattle.zig_parse.specs.Stack.{rest}
 use Rattle.zig_parse.specs.Threads.{after_read, closed, closed_from, hardened, has_braces, is_apart, is_braced, is_deep, is_never_alone, item, met, met_from, met_part, opened, passed, put, received, replaced, touched_from}
 use Rattle.zig_parse.specs.Moves.{at_choice, apart_from, move_at, move_from, moving, moving_by, next_move, readers, reading, reading_by, settled, spread, waits_for}
-use Rattle.zig_parse.specs.Choices.{choices}
 use Rattle.zig_parse.proofs.Derived.{open_is_row, split_derived}
 use Rattle.zig_parse.proofs.Tables.{same_kind}
 use Rattle.zig_parse.proofs.Picks.{choices_as, parts_in}

@@ -1,6 +1,6 @@
 -- The thread that reads what stands in a brace, before the brace; and what the parts of a path derive.
-use Rattle.std.proofs.Common.{◌≡◌, ℕ, zero, suc, ◌+◌, ◌-◌, ◌<◌, ◌≤◌, Bool, true, false, ◌&&◌, ◌||◌, ◌⊎◌, inl, inr, List, [], ◌∷◌, ◌++◌, map, length, Option, Some, None, refl, sym, ◌∙◌, ap, subst, arith}
-use Rattle.std.specs.Prelude.{if◌then◌else◌, not, nat_lt}
+use Rattle.std.proofs.Common.{◌≡◌, ℕ, ◌+◌, ◌-◌, Bool, true, false, ◌||◌, inl, inr, List, [], ◌∷◌, length, Some, None, refl, sym, ◌∙◌, ap, subst}
+use Rattle.std.specs.Prelude.{if◌then◌else◌}
 use Rattle.zig_tree.specs.declared.token.TokenKind.{TokenKind}
 use Rattle.zig_tree.specs.declared.token.TokenKind.TheVariants as kind
 use Rattle.zig_tree.specs.declared.grammar.Rule.{Rule}
@@ -10,10 +10,9 @@ use Rattle.zig_tree.specs.declared.grammar.Group.TheVariants as group
 use Rattle.zig_tree.specs.declared.grammar.When.TheVariants as when
 use Rattle.zig_tree.specs.declared.grammar.Part.{Part}
 use Rattle.zig_tree.specs.declared.grammar.Part.TheVariants as part
-use Rattle.zig_tree.specs.Kinds.{is_kind, has_kind, number_of}
+use Rattle.zig_tree.specs.Kinds.{is_kind, number_of}
 use Rattle.zig_tree.specs.Grammar.{Alternative, row, group_rows, rule_rows}
-use Rattle.zig_tree.specs.GrammarSentences.{Pieces, nothing, word, followed, made, open_at, Among, Derives, derives_none, derives_token, derives_group, derives_rule}
-use Rattle.zig_parse.specs.declared.choice.Look.{Look}
+use Rattle.zig_tree.specs.GrammarSentences.{Pieces, nothing, word, followed, made, open_at, Among, Derives, derives_none, derives_group, derives_rule}
 use Rattle.zig_parse.specs.declared.thread.Thread.{Thread}
 use Rattle.zig_parse.specs.declared.thread.Move.TheVariants as move
 use Rattle.zig_parse.specs.Stack.{rest}
@@ -21,11 +20,11 @@ use Rattle.zig_parse.specs.Threads.{collapses, fresh, has_braces, is_apart, is_b
 use Rattle.zig_parse.specs.Moves.{next_move, waits_for}
 use Rattle.zig_parse.specs.Choices.{choices, matching}
 use Rattle.zig_parse.specs.Passes.{begun, own_height}
-use Rattle.zig_parse.proofs.Derived.{followed_nothing, joined_derived}
-use Rattle.zig_parse.specs.Ways.{Fork, Taken, taken_sole, taken_first, taken_second, noted}
+use Rattle.zig_parse.proofs.Derived.{joined_derived}
+use Rattle.zig_parse.specs.Ways.{Fork, Taken, taken_sole, taken_first, taken_second}
 use Rattle.zig_parse.proofs.Paths.{Path, path_ends, path_closes, path_rule, path_group, path_reads, path_waits, look_of, parts_of_items, is_cons}
 use Rattle.zig_parse.proofs.Tidy.{tidy}
-use Rattle.zig_parse.proofs.Moving.{coming, rule_coming, group_coming, closed_keeps, met_part_keeps, read_keeps, received_keeps, rule_in_front, group_in_front, rule_comes, group_comes, Comes, Reading, Waiting, reads_front, waits_front, fits_derives}
+use Rattle.zig_parse.proofs.Moving.{coming, closed_keeps, met_part_keeps, read_keeps, received_keeps, rule_comes, group_comes, reads_front, waits_front, fits_derives}
 
 -- ---- the five parts in braces
 

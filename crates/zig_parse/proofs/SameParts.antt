@@ -1,5 +1,5 @@
 -- Parts that are tested to be the same are the same.
-use Rattle.std.proofs.Common.{◌≡◌, true, false, ◌&&◌, List, [], ◌∷◌, get_or, refl, sym, ◌∙◌, ap}
+use Rattle.std.proofs.Common.{◌≡◌, true, List, [], ◌∷◌, get_or, refl, sym, ◌∙◌, ap}
 use Rattle.std.proofs.lemmas.Bool.{eqb-true}
 use Rattle.zig_tree.specs.declared.grammar.Rule.{Rule}
 use Rattle.zig_tree.specs.declared.grammar.Rule.TheVariants as rule

@@ -1,19 +1,17 @@
 -- At a token the thread of a path is among those that can read it, and those before it lead nowhere.
-use Rattle.std.proofs.Common.{◌≡◌, ℕ, zero, suc, ◌+◌, ◌-◌, ◌<◌, ◌≤◌, Bool, true, false, ◌&&◌, ◌||◌, ◌⊎◌, inl, inr, List, [], ◌∷◌, ◌++◌, map, length, Option, Some, None, refl, sym, ◌∙◌, ap, subst, arith, append_assoc, append-nil}
+use Rattle.std.proofs.Common.{◌≡◌, ℕ, zero, suc, ◌+◌, ◌<◌, ◌≤◌, Bool, true, false, ◌||◌, ◌⊎◌, inl, inr, List, [], ◌∷◌, ◌++◌, length, Option, Some, None, refl, sym, ◌∙◌, ap, subst, arith, append_assoc, append-nil}
 use Rattle.zig_tree.specs.declared.token.TokenKind.{TokenKind}
 use Rattle.zig_tree.specs.declared.grammar.Rule.{Rule}
-use Rattle.zig_tree.specs.declared.grammar.Group.{Group}
 use Rattle.zig_tree.specs.declared.grammar.Part.{Part}
 use Rattle.zig_tree.specs.Grammar.{Alternative, group_rows, rule_rows}
 use Rattle.zig_tree.specs.GrammarSentences.{Pieces, open_at, Derives}
 use Rattle.zig_parse.specs.declared.choice.Look.{Look}
-use Rattle.zig_parse.specs.declared.thread.Item.{Item}
 use Rattle.zig_parse.specs.declared.thread.Thread.{Thread}
 use Rattle.zig_parse.specs.declared.thread.Move.{Move}
 use Rattle.zig_parse.specs.declared.thread.Move.TheVariants as move
 use Rattle.zig_parse.specs.Stack.{rest}
 use Rattle.zig_parse.specs.Threads.{closed, replaced}
-use Rattle.zig_parse.specs.Moves.{moving, moving_by, move_from, next_move, readers, reading_by, settled, settled_all, spread}
+use Rattle.zig_parse.specs.Moves.{moving, moving_by, next_move, readers, reading_by, settled_all, spread}
 use Rattle.zig_parse.specs.Choices.{choices}
 use Rattle.zig_parse.specs.Ways.{Fork, Taken, taken_sole, taken_first, taken_second, noted}
 use Rattle.zig_parse.proofs.Picks.{choices_as, parts_in}

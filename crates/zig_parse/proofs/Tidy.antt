@@ -1,7 +1,7 @@
 -- Inside a brace no token opens or closes one, but the last that closes it; what stands in a brace further in
 -- counts as one part. The checker computes it of each row of the grammar.
 use Rattle.std.proofs.Common.{◌≡◌, Bool, true, false, ◌&&◌, ◌||◌, ◌⊎◌, inl, inr, List, [], ◌∷◌, ◌++◌, refl, sym, ◌∙◌, ap, subst}
-use Rattle.std.specs.Prelude.{if◌then◌else◌, not}
+use Rattle.std.specs.Prelude.{not}
 use Rattle.std.proofs.lemmas.Bool.{and_parts, and_from, eq-eqb, not-true}
 use Rattle.zig_tree.specs.declared.token.TokenKind.{TokenKind}
 use Rattle.zig_tree.specs.declared.token.TokenKind.TheVariants as kind
@@ -10,7 +10,6 @@ use Rattle.zig_tree.specs.declared.grammar.Rule.TheVariants as rule
 use Rattle.zig_tree.specs.declared.grammar.Group.{Group}
 use Rattle.zig_tree.specs.declared.grammar.Group.TheVariants as group
 use Rattle.zig_tree.specs.declared.grammar.TokenClass.{TokenClass}
-use Rattle.zig_tree.specs.declared.grammar.TokenClass.TheVariants as class
 use Rattle.zig_tree.specs.declared.grammar.Part.{Part}
 use Rattle.zig_tree.specs.declared.grammar.Part.TheVariants as part
 use Rattle.zig_tree.specs.Kinds.{is_kind, has_kind, number_of, is_const_or_var, is_name_word, is_assign_operator, is_compare_operator, is_bit_operator, is_shift_operator, is_add_operator, is_multiply_operator, is_prefix_operator, is_pointer_mark, is_atom_word}

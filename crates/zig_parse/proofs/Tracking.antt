@@ -1,5 +1,5 @@
 -- The first pass has the thread of a path among its live ones: the state between two tokens, and at a token.
-use Rattle.std.proofs.Common.{◌≡◌, ℕ, zero, suc, ◌+◌, ◌-◌, ◌<◌, ◌≤◌, Bool, true, false, ◌⊎◌, inl, inr, List, [], ◌∷◌, ◌++◌, map, length, Option, Some, None, refl, sym, ◌∙◌, ap, subst, arith, append_assoc}
+use Rattle.std.proofs.Common.{◌≡◌, ℕ, ◌+◌, ◌<◌, Bool, true, false, ◌⊎◌, inl, inr, List, [], ◌∷◌, ◌++◌, length, sym, ◌∙◌, ap, subst, append_assoc}
 use Rattle.zig_tree.specs.declared.token.TokenKind.{TokenKind}
 use Rattle.zig_tree.specs.declared.grammar.Part.{Part}
 use Rattle.zig_parse.specs.declared.thread.Thread.{Thread}
@@ -8,8 +8,7 @@ use Rattle.zig_parse.specs.Threads.{after_read}
 use Rattle.zig_parse.specs.Moves.{next_move, settled_all}
 use Rattle.zig_parse.specs.Ways.{Fork, noted}
 use Rattle.zig_parse.proofs.Paths.{Path, look_of}
-use Rattle.zig_parse.proofs.Free.{own}
-use Rattle.zig_parse.proofs.Moving.{coming, Each, each_joined}
+use Rattle.zig_parse.proofs.Moving.{Each, each_joined}
 use Rattle.zig_parse.proofs.Settling.{Dead, chosen_with, settle_path, settled_dead, settled_joined}
 use Rattle.zig_parse.proofs.Living.{Around, Good, Gone, Readable, settled_good}
 

@@ -1,12 +1,11 @@
 -- What the parser answers where the first pass accepts all tokens.
-use Rattle.std.proofs.Common.{◌≡◌, ℕ, zero, suc, ◌+◌, ◌-◌, ◌<◌, ◌≤◌, Bool, true, false, ◌&&◌, ◌⊎◌, inl, inr, List, [], ◌∷◌, ◌++◌, length, take, drop, Result, Ok, Err, refl, sym, ◌∙◌, ap, subst, arith, append_assoc}
-use Rattle.std.specs.Prelude.{if◌then◌else◌, not, slice_get, ◌^◌}
+use Rattle.std.proofs.Common.{◌≡◌, ℕ, ◌+◌, ◌-◌, ◌<◌, Bool, true, false, ◌&&◌, ◌⊎◌, inl, inr, List, [], ◌∷◌, ◌++◌, length, take, drop, Result, Ok, Err, refl, sym, ◌∙◌, ap, subst, arith, append_assoc}
+use Rattle.std.specs.Prelude.{not, ◌^◌}
 use Rattle.std.proofs.lemmas.Bool.{and_parts, not-true}
 use Rattle.std.proofs.lemmas.List.{take-append-drop}
 use Rattle.zig_tree.specs.declared.token.Token.{Token}
 use Rattle.zig_tree.specs.declared.token.TokenKind.{TokenKind}
 use Rattle.zig_tree.specs.declared.token.TokenKind.TheVariants as kind
-use Rattle.zig_tree.specs.declared.grammar.Rule.{Rule}
 use Rattle.zig_tree.specs.declared.grammar.Rule.TheVariants as rule
 use Rattle.zig_tree.specs.declared.grammar.Group.TheVariants as group
 use Rattle.zig_tree.specs.declared.grammar.Part.{Part}
@@ -14,22 +13,21 @@ use Rattle.zig_tree.specs.declared.grammar.Part.TheVariants as part
 use Rattle.zig_tree.specs.declared.tree.Node.{Node}
 use Rattle.zig_tree.specs.Kinds.{has_kind, is_kind, number_of}
 use Rattle.zig_tree.specs.Grammar.{Alternative, group_rows, rule_rows}
-use Rattle.zig_tree.specs.GrammarSentences.{Pieces, open_at, Among, Derives, derives_none, derives_token, derives_one_of, derives_group, derives_rule, Sentence, Begins}
-use Rattle.zig_parse.specs.declared.state.State.{State}
+use Rattle.zig_tree.specs.GrammarSentences.{Pieces, Among, Derives, derives_none, derives_token, derives_one_of, derives_group, derives_rule, Sentence, Begins}
 use Rattle.zig_parse.specs.declared.fault.SyntaxFault.{SyntaxFault}
 use Rattle.zig_parse.specs.declared.fault.SyntaxFault.TheVariants.{Unexpected, TooDeep, OutOfMemory}
-use Rattle.zig_parse.specs.Surveys.{kind_of, look_at}
+use Rattle.zig_parse.specs.Surveys.{look_at}
 use Rattle.zig_parse.specs.Growth.{grown_from, parse_of, ◌>>=◌}
 use Rattle.zig_parse.specs.Trees.{IsEnded, IsRefusedFor, NotWithout, kinds_of}
 use Rattle.zig_parse.proofs.Tables.{same_kind}
 use Rattle.zig_parse.proofs.Derived.{open_is_row, row_tested, rule_derived, split_derived, token_derived, none_derived}
-use Rattle.zig_parse.proofs.LastToken.{are_free, group_free, is_free, is_root, row_free, rule_free}
+use Rattle.zig_parse.proofs.LastToken.{are_free, group_free, is_root, row_free, rule_free}
 use Rattle.zig_parse.proofs.Preferred.{sentence_some}
 use Rattle.zig_parse.proofs.Reading.{Reads}
 use Rattle.zig_parse.proofs.SureGrown.{GrownAs, grown_or}
 use Rattle.zig_parse.proofs.SureGoes.{Agrees}
 use Rattle.zig_parse.proofs.LastingEnds.{some_ends}
-use Rattle.zig_parse.proofs.Answers.{Chosen, Found, Left, agrees_as, choices_of, first_found, found_where, kinds_length, refused_not, survey_of, taken_more}
+use Rattle.zig_parse.proofs.Answers.{Left, agrees_as, choices_of, first_found, found_where, kinds_length, refused_not, survey_of, taken_more}
 
 -- ---- the file's end stands at the end alone
 
