@@ -23,7 +23,7 @@ use Rattle.zig_parse.specs.declared.fault.SyntaxFault.TheVariants.{Unexpected, T
 use Rattle.zig_parse.specs.Choices.{choices, matching}
 use Rattle.zig_parse.specs.Threads.{collapses, fresh, opened, put}
 use Rattle.zig_parse.specs.Passes.{alone, begun, verdict_of}
-use Rattle.zig_parse.specs.Surveys.{first_state, judged, left_waiting, look_at, next_live, next_marks, next_state, next_verdict, read_live, read_waiting, surveyed}
+use Rattle.zig_parse.specs.Surveys.{first_state, is_spared, judged, left_waiting, look_at, next_live, next_marks, next_state, next_verdict, read_live, read_waiting, surveyed}
 use Rattle.zig_parse.specs.Growth.{grown_from, parse_of, ◌>>=◌}
 use Rattle.zig_parse.specs.Trees.{IsChosen, IsNotAccepted, IsRefusedFor, NotWithout, Spells, kinds_of}
 use Rattle.zig_parse.specs.Ways.{Fork, Sure}
@@ -48,7 +48,7 @@ use Rattle.zig_parse.proofs.LastingEnds.{some_ends}
 
 -- ---- the path of a sentence
 
-abbrev low_step : (tree : Pieces) (n : ℕ) → low_in tree (n + 1) → low_in tree n
+abbrev pub low_step : (tree : Pieces) (n : ℕ) → low_in tree (n + 1) → low_in tree n
 low_step tree n h = low_falls tree n (n + 1) (omega arith) h
 
 pub agrees_as : (tokens : List Token) (marks : List Bool) (forks : List Fork) → Agree (length tokens) marks forks → Agrees tokens marks forks
@@ -138,9 +138,9 @@ taken_more [] at h = absurd (omega arith)
 taken_more (t ∷ ts) zero h = refl
 taken_more (t ∷ ts) (suc at) h = let e : suc at + 1 ≡ suc (at + 1) = omega arith in ap (λ (n : ℕ). take n (kinds_of (t ∷ ts))) e ∙ ap (λ (l : List TokenKind). t.kind ∷ l) (taken_more ts at (omega arith))
 
-some_verdict : (ts : List Thread) → (verdict_of ts ≡ verdict.Unexpected → ⊥) → (first : Thread) × (others : List Thread) × (ts ≡ first ∷ others)
-some_verdict [] h = absurd (h refl)
-some_verdict (t ∷ ts) h = (t, ts, refl)
+some_verdict : (spared : Bool) (ts : List Thread) → (verdict_of spared ts ≡ verdict.Unexpected → ⊥) → (first : Thread) × (others : List Thread) × (ts ≡ first ∷ others)
+some_verdict spared [] h = absurd (h refl)
+some_verdict spared (t ∷ ts) h = (t, ts, refl)
 
 some_alone : (ts : List Thread) (first : Thread) (others : List Thread) → ts ≡ first ∷ others → (t : Thread) × (more : List Thread) × (alone ts ≡ t ∷ more)
 some_alone [] first others e = absurd (cc)
@@ -151,7 +151,7 @@ left_next : (tokens : List Token) (at : ℕ) (s : State) → at < length tokens 
 unfolding next_verdict next_state
 left_next tokens at s h l fine =
     let look = look_at tokens at in
-    let some = some_verdict (next_live look at s) (λ e. (let wrong : verdict.Fine ≡ verdict.Unexpected = sym fine ∙ e in cc)) in
+    let some = some_verdict (is_spared look at s) (next_live look at s) (λ e. (let wrong : verdict.Fine ≡ verdict.Unexpected = sym fine ∙ e in cc)) in
     let one = some_alone (next_live look at s) some.0 some.1 some.2 in
     let lasts = lasts_next look at s (take at (kinds_of tokens)) l.lasts in
     record { first = one.0; others = one.1; live = one.2; lasts = subst (λ (f : List TokenKind). Lasts (next_state look at s).live (next_state look at s).waiting f look.next) (sym (taken_more tokens at h)) lasts }
@@ -197,7 +197,7 @@ deep_begins : (tokens : List Token) (at : ℕ) (s : State) → at < length token
 unfolding next_verdict
 deep_begins tokens at s h l deep =
     let look = look_at tokens at in
-    let some = some_verdict (next_live look at s) (λ e. (let wrong : verdict.TooDeep ≡ verdict.Unexpected = sym deep ∙ e in cc)) in
+    let some = some_verdict (is_spared look at s) (next_live look at s) (λ e. (let wrong : verdict.TooDeep ≡ verdict.Unexpected = sym deep ∙ e in cc)) in
     let lasts = lasts_live look at s (take at (kinds_of tokens)) l.lasts in
     let w = some_ends (next_live look at s) (left_waiting look (read_live look at s) (read_waiting look at s)) (take at (kinds_of tokens) ++ look.kind ∷ []) look.next some.0 some.1 some.2 lasts in
     subst (λ (f : List TokenKind). NotWithout (Begins f)) (sym (taken_more tokens at h)) (derived_begins (take at (kinds_of tokens) ++ look.kind ∷ []) w.0 w.1)
@@ -213,48 +213,48 @@ judged_unexpected verdict.Unexpected r j k at a h = inl (refl, same_unexpected j
 judged_unexpected verdict.TooDeep r j k at a h = absurd (cc)
 
 -- where the tokens are those of a path up to this one, whatever stands behind it, it is not unexpected
-last_run : (low : ℕ → Type 0) → ((n : ℕ) → low (n + 1) → low n) → (total n m at : ℕ) (tokens : List Token) (s : State) (marks : List Bool) (ds : List ℕ) (forks : List Fork) (kinds : List TokenKind) (k : TokenKind)
-    → Tracked low total at kinds s.live s.waiting ds forks → n < length kinds → Looks tokens at n kinds → (look_at tokens (at + n)).kind ≡ next_kind (drop n kinds) → surveyed m at tokens s marks ≡ Err (Unexpected k (at + n)) → ⊥
+last_run : (low : ℕ → Type 0) → ((n : ℕ) → low (n + 1) → low n) → (top total n m at : ℕ) (tokens : List Token) (s : State) (marks : List Bool) (ds : List ℕ) (forks : List Fork) (kinds : List TokenKind) (k : TokenKind)
+    → Tracked low top total at kinds s.live s.waiting ds forks → n < length kinds → Looks tokens at n kinds → (look_at tokens (at + n)).kind ≡ next_kind (drop n kinds) → surveyed m at tokens s marks ≡ Err (Unexpected k (at + n)) → ⊥
 unfolding surveyed next_verdict
-last_run low falls total n zero at tokens s marks ds forks kinds k t l looks kind h = absurd (cc)
-last_run low falls total n (suc m) at tokens s marks ds forks [] k t l looks kind h = absurd (omega arith)
-last_run low falls total zero (suc m) at tokens s marks ds forks (j ∷ more) k t l looks kind h =
-    let st = step_path low falls total at j more s ds forks t in
+last_run low falls top total n zero at tokens s marks ds forks kinds k t l looks kind h = absurd (cc)
+last_run low falls top total n (suc m) at tokens s marks ds forks [] k t l looks kind h = absurd (omega arith)
+last_run low falls top total zero (suc m) at tokens s marks ds forks (j ∷ more) k t l looks kind h =
+    let st = step_path low falls top total at j more s ds forks t in
     let here : look_at tokens (at + 0) ≡ look_at tokens at = ap (look_at tokens) (omega arith) in
     let same : (look_at tokens at).kind ≡ (look_of (j ∷ more)).kind = sym (ap (λ (x : Look). x.kind) here) ∙ kind in
     elim (judged_unexpected (next_verdict (look_at tokens at) at s) (surveyed m (at + 1) tokens (next_state (look_at tokens at) at s) (next_marks (look_at tokens at) at s marks)) (look_at tokens at).kind k at (at + 0) h) [
-      | inl v ↦ st.off.some (last_unexpected (look_at tokens at) (look_of (j ∷ more)) at s same v.0)
+      | inl v ↦ st.off.some (is_spared (look_of (j ∷ more)) at s) (last_unexpected (look_at tokens at) (look_of (j ∷ more)) at s same v.0)
       | inr r ↦ let e = refused_from m (at + 1) tokens (next_state (look_at tokens at) at s) (next_marks (look_at tokens at) at s marks) (at + 0) (inl (k, r.1)) in absurd (omega arith)
     ]
-last_run low falls total (suc n) (suc m) at tokens s marks ds forks (j ∷ more) k t l looks kind h =
+last_run low falls top total (suc n) (suc m) at tokens s marks ds forks (j ∷ more) k t l looks kind h =
     let look = look_of (j ∷ more) in
     let here = looks_here tokens at n (j ∷ more) looks in
-    let st = step_path low falls total at j more s ds forks t in
+    let st = step_path low falls top total at j more s ds forks t in
     let number : at + suc n ≡ at + 1 + n = omega arith in
     elim (judged_unexpected (next_verdict (look_at tokens at) at s) (surveyed m (at + 1) tokens (next_state (look_at tokens at) at s) (next_marks (look_at tokens at) at s marks)) (look_at tokens at).kind k at (at + suc n) h) [
       | inl v ↦ absurd (let e = v.1 in omega (arith, e))
       | inr r ↦ elim st.off.state [
         | inr ended ↦ absurd (let none = ap length ended.no_tokens in omega (arith, none, l))
         | inl tracked ↦
-            let one = alone_path low total (at + 1) more (next_live look at s) (next_state look at s).waiting (chosen_with at st.news ds) st.later marks tracked in
-            let next : Tracked low total (at + 1) more (next_state look at s).live (next_state look at s).waiting one.es st.later =
-            subst (λ (u : List Thread). Tracked low total (at + 1) more u (next_state look at s).waiting one.es st.later) (sym (state_live look at s)) one.state in
+            let one = alone_path low top total (at + 1) more (next_live look at s) (next_state look at s).waiting (chosen_with at st.news ds) st.later marks tracked in
+            let next : Tracked low top total (at + 1) more (next_state look at s).live (next_state look at s).waiting one.es st.later =
+            subst (λ (u : List Thread). Tracked low top total (at + 1) more u (next_state look at s).waiting one.es st.later) (sym (state_live look at s)) one.state in
             let left : surveyed m (at + 1) tokens (next_state look at s) (next_marks look at s marks) ≡ Err (Unexpected k (at + 1 + n)) =
             ap (λ (x : Look). surveyed m (at + 1) tokens (next_state x at s) (next_marks x at s marks)) (sym here) ∙ r.1 ∙ ap (λ (i : ℕ). Err (Unexpected k i)) number in
-            last_run low falls total n m (at + 1) tokens (next_state look at s) (next_marks look at s marks) one.es st.later more k next (omega arith) (looks_next tokens at n j more looks) (ap (λ (i : ℕ). (look_at tokens i).kind) (sym number) ∙ kind) left
+            last_run low falls top total n m (at + 1) tokens (next_state look at s) (next_marks look at s marks) one.es st.later more k next (omega arith) (looks_next tokens at n j more looks) (ap (λ (i : ℕ). (look_at tokens i).kind) (sym number) ∙ kind) left
       ]
     ]
 
 -- ---- lists with some tokens in common
 
-common_next : (a b : List TokenKind) (n : ℕ) → take (suc n) a ≡ take (suc n) b → next_kind (drop n a) ≡ next_kind (drop n b)
+pub common_next : (a b : List TokenKind) (n : ℕ) → take (suc n) a ≡ take (suc n) b → next_kind (drop n a) ≡ next_kind (drop n b)
 common_next [] [] n e = refl
 common_next [] (k ∷ b) n e = absurd (cc)
 common_next (j ∷ a) [] n e = absurd (cc)
 common_next (j ∷ a) (k ∷ b) zero e = cc
 common_next (j ∷ a) (k ∷ b) (suc n) e = common_next a b n (cc)
 
-common_front : (l w : List TokenKind) (n : ℕ) → n ≤ length l → take n (take n l ++ w) ≡ take n l
+pub common_front : (l w : List TokenKind) (n : ℕ) → n ≤ length l → take n (take n l ++ w) ≡ take n l
 common_front l w zero h = refl
 common_front [] w (suc n) h = absurd (omega arith)
 common_front (k ∷ l) w (suc n) h = ap (λ (x : List TokenKind). k ∷ x) (common_front l w n (omega arith))
@@ -268,18 +268,18 @@ pub kinds_length : (tokens : List Token) → length (kinds_of tokens) ≡ length
 kinds_length [] = refl
 kinds_length (t ∷ ts) = ap suc (kinds_length ts)
 
-kind_here : (tokens : List Token) (at : ℕ) → (look_at tokens at).kind ≡ next_kind (drop at (kinds_of tokens))
+pub kind_here : (tokens : List Token) (at : ℕ) → (look_at tokens at).kind ≡ next_kind (drop at (kinds_of tokens))
 kind_here [] zero = refl
 kind_here [] (suc at) = refl
 kind_here (t ∷ ts) zero = refl
 kind_here (t ∷ ts) (suc at) = kind_here ts at
 
-first_look : (tokens : List Token) (kinds : List TokenKind) (at : ℕ) → Looks tokens 0 at kinds → (look_at tokens 0 ≡ look_of kinds) ⊎ (at ≡ 0)
+pub first_look : (tokens : List Token) (kinds : List TokenKind) (at : ℕ) → Looks tokens 0 at kinds → (look_at tokens 0 ≡ look_of kinds) ⊎ (at ≡ 0)
 first_look tokens kinds zero looks = inr refl
 first_look tokens kinds (suc at) looks = inl (looks_here tokens 0 at kinds looks)
 
 -- the root begins in the same way before all tokens
-first_same : (a b : Look) → first_state a ≡ first_state b
+pub first_same : (a b : Look) → first_state a ≡ first_state b
 unfolding first_state begun choices matching rule_rows
 first_same a b = refl
 
@@ -298,9 +298,9 @@ no_begin tokens k at h refused (w, tree, s) =
     let number : ◌≡◌ {A = Result (List Bool) SyntaxFault} (Err (Unexpected k at)) (Err (Unexpected k (0 + at))) = ap (λ (i : ℕ). Err (Unexpected k i)) (omega arith) in
     let first = first_look tokens kinds at looks in
     elim first [
-      | inl e ↦ last_run (low_in tree) (low_step tree) (length kinds) at (length tokens) 0 tokens (first_state (look_of kinds)) (replicate (length tokens) false) [] sure.0 kinds k (started (low_in tree) kinds path.0 sure.0 path.1) (omega arith) looks kind
+      | inl e ↦ last_run (low_in tree) (low_step tree) path.0 (length kinds) at (length tokens) 0 tokens (first_state (look_of kinds)) (replicate (length tokens) false) [] sure.0 kinds k (started (low_in tree) kinds path.0 sure.0 path.1) (omega arith) looks kind
           (ap (λ (l : Look). surveyed (length tokens) 0 tokens (first_state l) (replicate (length tokens) false)) (sym e) ∙ refused ∙ number)
-      | inr e ↦ last_run (low_in tree) (low_step tree) (length kinds) at (length tokens) 0 tokens (first_state (look_of kinds)) (replicate (length tokens) false) [] sure.0 kinds k (started (low_in tree) kinds path.0 sure.0 path.1) (omega arith) looks kind
+      | inr e ↦ last_run (low_in tree) (low_step tree) path.0 (length kinds) at (length tokens) 0 tokens (first_state (look_of kinds)) (replicate (length tokens) false) [] sure.0 kinds k (started (low_in tree) kinds path.0 sure.0 path.1) (omega arith) looks kind
           (ap (λ (l : State). surveyed (length tokens) 0 tokens l (replicate (length tokens) false)) (first_same (look_of kinds) (look_at tokens 0)) ∙ refused ∙ number)
     ]
 

@@ -1,6 +1,6 @@
 -- A token is refused whatever stands behind it.
 use Rattle.std.proofs.Common.{◌≡◌, ℕ, zero, suc, ◌<◌, Bool, true, false, ◌&&◌, ◌||◌, ◌⊎◌, inl, inr, List, [], ◌∷◌, ◌++◌, map, length, refl, sym, ◌∙◌, ap, arith}
-use Rattle.std.specs.Prelude.{if◌then◌else◌, nat_lt, is_some, Option, Some, None}
+use Rattle.std.specs.Prelude.{if◌then◌else◌, nat_lt, not, is_some, Option, Some, None}
 use Rattle.std.proofs.lemmas.Bool.{and_parts, le-ltb}
 use Rattle.zig_tree.specs.declared.token.TokenKind.{TokenKind}
 use Rattle.zig_tree.specs.declared.token.TokenKind.TheVariants as kind
@@ -26,8 +26,8 @@ use Rattle.zig_parse.specs.declared.survey.Verdict.TheVariants as verdict
 use Rattle.zig_parse.specs.Choices.{choices, matching, is_shared, first_parts, taken}
 use Rattle.zig_parse.specs.Moves.{apart_from, move_at, move_from, moves_for_all, moving, moving_by, next_move, readers, reading, reading_by, settled, settled_all, spread, waits_for}
 use Rattle.zig_parse.specs.Threads.{after_read, fresh, has_braces, is_apart, is_braced, met, opened, passed, put, replaced}
-use Rattle.zig_parse.specs.Passes.{after_token, all_deep, any_waits, begun, begun_at, begun_by, begun_for, enclosed, finished, has_read_all, inside, is_among, is_closed, kept_with, least_from, part_choices, resumed_top, those_waiting, verdict_of}
-use Rattle.zig_parse.specs.Surveys.{entered, entered_waiting, left, next_live, next_verdict, read_live, read_waiting}
+use Rattle.zig_parse.specs.Passes.{after_token, all_deep, any_shallow, any_waits, begun, begun_at, begun_by, begun_for, enclosed, finished, has_read_all, inside, is_among, is_closed, kept_with, least_from, part_choices, resumed_top, those_waiting, verdict_of}
+use Rattle.zig_parse.specs.Surveys.{entered, entered_waiting, is_spared, left, next_live, next_verdict, read_live, read_waiting}
 use Rattle.zig_parse.proofs.Derived.{each_row}
 use Rattle.zig_parse.proofs.Tables.{same_kind}
 use Rattle.zig_parse.proofs.Costs.{settled_one, settled_nothing, settled_less, total_work}
@@ -96,13 +96,13 @@ taken_same a b [] agree_none = refl
 taken_same a b (r ∷ rows) (agree_more _ _ e h) =
     ap (λ (l : List (List Part)). r.parts ∷ l) (if_none (is_shared r.at) (first_parts (matching a rows)) (first_parts (matching b rows)) (ap first_parts (matching_same a b rows h)))
 
-choices_agree : (a b : Look) (rows : List Alternative) → Agree a b rows → choices a rows ≡ choices b rows
+pub choices_agree : (a b : Look) (rows : List Alternative) → Agree a b rows → choices a rows ≡ choices b rows
 unfolding choices
 choices_agree a b rows h = ap (taken a) (matching_same a b rows h) ∙ taken_same a b (matching b rows) (agree_matching a b rows h)
 
 -- ---- moves
 
-abbrev SameChoices : Look → Look → Type 0
+abbrev pub SameChoices : Look → Look → Type 0
 SameChoices a b = (rows : List Alternative) → choices a rows ≡ choices b rows
 
 move_same : (a b : Look) (apart : Bool) (p : Part) → a.kind ≡ b.kind → move_at a apart p ≡ move_at b apart p
@@ -119,7 +119,7 @@ pub next_same : (a b : Look) (apart : Bool) (t : Thread) → a.kind ≡ b.kind �
 unfolding next_move
 next_same a b apart t e = from_same a b apart (length t.frames) t.items e
 
-readers_same : (a b : Look) (t : Thread) → a.kind ≡ b.kind → readers a t ≡ readers b t
+pub readers_same : (a b : Look) (t : Thread) → a.kind ≡ b.kind → readers a t ≡ readers b t
 unfolding readers
 readers_same a b t e = ap (reading_by t) (next_same a b true t e)
 
@@ -130,7 +130,7 @@ by_same a b at t move.Close f g = refl
 by_same a b at t (move.Rule r) f g = ap (λ (l : List (List Part)). spread at (Some r) l t) (f r refl)
 by_same a b at t (move.Group k) f g = ap (λ (l : List (List Part)). spread at None l t) (g k)
 
-moving_same : (a b : Look) (at : ℕ) (t : Thread) → a.kind ≡ b.kind → ((r : Rule) → next_move a true t ≡ move.Rule r → choices a (rule_rows r) ≡ choices b (rule_rows r)) → ((g : Group) → choices a (group_rows g) ≡ choices b (group_rows g)) → moving a at t ≡ moving b at t
+pub moving_same : (a b : Look) (at : ℕ) (t : Thread) → a.kind ≡ b.kind → ((r : Rule) → next_move a true t ≡ move.Rule r → choices a (rule_rows r) ≡ choices b (rule_rows r)) → ((g : Group) → choices a (group_rows g) ≡ choices b (group_rows g)) → moving a at t ≡ moving b at t
 unfolding moving
 moving_same a b at t e f g = by_same a b at t (next_move a true t) f g ∙ ap (moving_by b at t) (next_same a b true t e)
 
@@ -260,33 +260,33 @@ group_plain group.SwitchBraces = refl
 
 -- ---- a token that is an identifier is read where an operand begins
 
-pub identifier : TokenKind → Look
+unfoldable pub identifier : TokenKind → Look
 identifier n = record { kind = kind.Identifier; next = n }
 
-label_parts : List Part
+unfoldable pub label_parts : List Part
 label_parts = part.Token kind.Identifier ∷ part.Token kind.Colon ∷ part.Group group.LabelledExpression ∷ []
 
-type_parts : List Part
+unfoldable pub type_parts : List Part
 type_parts = part.Rule rule.TypeExpression ∷ part.Group group.InitializerOption ∷ []
 
-primary_choices : (n : TokenKind) (b : Bool) → is_kind n kind.Colon ≡ b → choices (identifier n) (rule_rows rule.Primary) ≡ (if b then label_parts else type_parts) ∷ []
+pub primary_choices : (n : TokenKind) (b : Bool) → is_kind n kind.Colon ≡ b → choices (identifier n) (rule_rows rule.Primary) ≡ (if b then label_parts else type_parts) ∷ []
 unfolding choices matching rule_rows number_of identifier label_parts type_parts kinds.is_type_start
 primary_choices n true e = rw e refl
 primary_choices n false e = rw e refl
 
-type_choices : (n : TokenKind) → choices (identifier n) (rule_rows rule.TypeExpression) ≡ (part.Rule rule.Suffix ∷ part.Group group.BangTypeOption ∷ []) ∷ []
+pub type_choices : (n : TokenKind) → choices (identifier n) (rule_rows rule.TypeExpression) ≡ (part.Rule rule.Suffix ∷ part.Group group.BangTypeOption ∷ []) ∷ []
 unfolding choices matching rule_rows number_of identifier kinds.is_type_prefix_start kinds.is_atom_word
 type_choices n = refl
 
-suffix_choices : (n : TokenKind) → choices (identifier n) (rule_rows rule.Suffix) ≡ (part.Rule rule.Atom ∷ part.Group group.SuffixTail ∷ []) ∷ []
+pub suffix_choices : (n : TokenKind) → choices (identifier n) (rule_rows rule.Suffix) ≡ (part.Rule rule.Atom ∷ part.Group group.SuffixTail ∷ []) ∷ []
 unfolding choices matching rule_rows number_of identifier kinds.is_type_prefix_start kinds.is_atom_word
 suffix_choices n = refl
 
-atom_choices : (n : TokenKind) → choices (identifier n) (rule_rows rule.Atom) ≡ (part.OneOf class.AtomWord ∷ []) ∷ []
+pub atom_choices : (n : TokenKind) → choices (identifier n) (rule_rows rule.Atom) ≡ (part.OneOf class.AtomWord ∷ []) ∷ []
 unfolding choices matching rule_rows number_of identifier kinds.is_type_prefix_start kinds.is_atom_word
 atom_choices n = refl
 
-fresh_move : (look : Look) (r : Rule) (p : Part) (ps : List Part) (t : Thread) → next_move look true (replaced (Some r) (p ∷ ps) t) ≡ move_at look true p
+pub fresh_move : (look : Look) (r : Rule) (p : Part) (ps : List Part) (t : Thread) → next_move look true (replaced (Some r) (p ∷ ps) t) ≡ move_at look true p
 unfolding next_move replaced put
 fresh_move look r p ps t = let n = length (opened r (met r (passed t))).frames in rw (le-ltb n n (omega arith)) refl
 
@@ -404,14 +404,21 @@ left_same : (a b : Look) (live : List Thread) (waiting : List (List Thread)) →
 unfolding left is_closed
 left_same a b live waiting e = ap (λ (k : TokenKind). if is_kind k kind.RightBrace && has_read_all live then resumed_top (map finished live) waiting else live) e
 
-pub last_look : (a b : Look) (at : ℕ) (s : State) → a.kind ≡ b.kind → is_kind a.kind kind.Identifier ≡ false → next_verdict a at s ≡ next_verdict b at s
-unfolding next_verdict next_live read_live read_waiting settled_all
-last_look a b at s e h =
-    let f : SameChoices a b = λ rows. choices_agree a b rows (agree_other a b rows e h) in
+-- where the same rows are taken, the same becomes of the tokens
+pub same_verdict : (a b : Look) (at : ℕ) (s : State) → a.kind ≡ b.kind → SameChoices a b → next_verdict a at s ≡ next_verdict b at s
+unfolding next_verdict next_live is_spared read_live read_waiting settled_all
+same_verdict a b at s e f =
     let ready = settled_same (moves_for_all s.live) a b at s.live e f in
     let live : read_live a at s ≡ read_live b at s = ap (λ (l : List Thread). after_token [] (entered a l)) ready ∙ ap (after_token []) (entered_same a b (settled_all b at s.live) f) in
     let waiting : read_waiting a at s ≡ read_waiting b at s = ap (λ (l : List Thread). entered_waiting l s.waiting) ready in
-    ap verdict_of (left_same a b (read_live a at s) (read_waiting a at s) e ∙ ap (λ (l : List Thread). left b l (read_waiting a at s)) live ∙ ap (left b (read_live b at s)) waiting)
+    let spared : is_spared a at s ≡ is_spared b at s =
+    ap (λ (k : TokenKind). is_kind k kind.Identifier && any_shallow (entered a (settled_all a at s.live))) e
+    ∙ ap (λ (l : List Thread). is_kind b.kind kind.Identifier && any_shallow l) (ap (entered a) ready ∙ entered_same a b (settled_all b at s.live) f) in
+    ap (λ (x : Bool). verdict_of x (next_live a at s)) spared
+    ∙ ap (verdict_of (is_spared b at s)) (left_same a b (read_live a at s) (read_waiting a at s) e ∙ ap (λ (l : List Thread). left b l (read_waiting a at s)) live ∙ ap (left b (read_live b at s)) waiting)
+
+pub last_look : (a b : Look) (at : ℕ) (s : State) → a.kind ≡ b.kind → is_kind a.kind kind.Identifier ≡ false → next_verdict a at s ≡ next_verdict b at s
+last_look a b at s e h = same_verdict a b at s e (λ rows. choices_agree a b rows (agree_other a b rows e h))
 
 -- ---- an identifier
 
@@ -477,33 +484,33 @@ waits_joined (t ∷ x) y h k = by (is_some (waits_for t)) (any_waits x) h (waits
     by true v e f = absurd (cc)
     by false v e f = f e k
 
-none_waits : (fuel : ℕ) (n : TokenKind) (at : ℕ) (ts : List Thread) → any_waits (settled fuel (identifier n) at ts) ≡ false
+pub none_waits : (fuel : ℕ) (n : TokenKind) (at : ℕ) (ts : List Thread) → any_waits (settled fuel (identifier n) at ts) ≡ false
 unfolding settled any_waits
 none_waits zero n at ts = refl
 none_waits (suc fuel) n at [] = refl
 none_waits (suc fuel) n at (t ∷ ts) = waits_joined (readers (identifier n) t) (settled fuel (identifier n) at (moving (identifier n) at t ++ ts)) (one_waits n t) (none_waits fuel n at (moving (identifier n) at t ++ ts))
 
 -- after an identifier no thread is left exactly where none reads it
-live_is : (n : TokenKind) (at : ℕ) (s : State) → next_live (identifier n) at s ≡ after_token [] (settled_all (identifier n) at s.live)
+pub live_is : (n : TokenKind) (at : ℕ) (s : State) → next_live (identifier n) at s ≡ after_token [] (settled_all (identifier n) at s.live)
 unfolding next_live left is_closed read_live entered identifier number_of settled_all
 live_is n at s = rw (none_waits (moves_for_all s.live) n at s.live) refl
 
-unexpected_none : (ts : List Thread) → verdict_of ts ≡ verdict.Unexpected → ts ≡ []
-unexpected_none [] h = refl
-unexpected_none (t ∷ ts) h = absurd (by (all_deep (t ∷ ts)) h)
+unexpected_none : (spared : Bool) (ts : List Thread) → verdict_of spared ts ≡ verdict.Unexpected → ts ≡ []
+unexpected_none spared [] h = refl
+unexpected_none spared (t ∷ ts) h = absurd (by (all_deep (t ∷ ts) && not spared) h)
   where
     by : (x : Bool) → (if x then verdict.TooDeep else verdict.Fine) ≡ verdict.Unexpected → ⊥
     by true e = cc
     by false e = cc
 
-identifier_unexpected : (x y : TokenKind) (at : ℕ) (s : State) → next_verdict (identifier x) at s ≡ verdict.Unexpected → next_verdict (identifier y) at s ≡ verdict.Unexpected
+pub identifier_unexpected : (x y : TokenKind) (at : ℕ) (s : State) → next_verdict (identifier x) at s ≡ verdict.Unexpected → next_verdict (identifier y) at s ≡ verdict.Unexpected
 unfolding next_verdict after_token
 identifier_unexpected x y at s h =
-    let none : settled_all (identifier x) at s.live ≡ [] = none_kept (settled_all (identifier x) at s.live) (sym (live_is x at s) ∙ unexpected_none (next_live (identifier x) at s) h) in
+    let none : settled_all (identifier x) at s.live ≡ [] = none_kept (settled_all (identifier x) at s.live) (sym (live_is x at s) ∙ unexpected_none (is_spared (identifier x) at s) (next_live (identifier x) at s) h) in
     let other = none_reads (suc (total_work s.live)) x y at s.live (omega arith) none in
-    ap verdict_of (live_is y at s ∙ ap (after_token []) other)
+    ap (verdict_of (is_spared (identifier y) at s)) (live_is y at s ∙ ap (after_token []) other)
 
-is_identifier : (a : Look) → is_kind a.kind kind.Identifier ≡ true → a ≡ identifier a.next
+pub is_identifier : (a : Look) → is_kind a.kind kind.Identifier ≡ true → a ≡ identifier a.next
 unfolding identifier
 is_identifier a h = let e : a.kind ≡ kind.Identifier = same_kind a.kind kind.Identifier h in ap (λ (k : TokenKind). record { kind = k; next = a.next }) e
 

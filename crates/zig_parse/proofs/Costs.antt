@@ -119,7 +119,7 @@ not_close : (m : Move) → (m ≡ move.Read) ⊎ (m ≡ move.Stop) → m ≡ mov
 not_close m (inl e) h = let x : move.Read ≡ move.Close = sym e ∙ h in cc
 not_close m (inr e) h = let x : move.Stop ≡ move.Close = sym e ∙ h in cc
 
-part_not_close : (look : Look) (apart : Bool) (p : Part) → move_at look apart p ≡ move.Close → ⊥
+pub part_not_close : (look : Look) (apart : Bool) (p : Part) → move_at look apart p ≡ move.Close → ⊥
 part_not_close look apart (part.Token k) h = not_close _ (reading_never (is_kind k look.kind) _ refl) h
 part_not_close look apart (part.OneOf c) h = not_close _ (reading_never (has_kind c look.kind) _ refl) h
 part_not_close look apart (part.Rule r) h = by (apart && is_braced r) h

@@ -35,12 +35,12 @@ hears_later low falls told m n l (inl e) = inl e
 hears_later low falls told m n l (inr never) = inr (λ h. never (falls_to low falls m n l h))
 
 -- the threads at the token after so many choices, of those to come
-pub record Entered (low : ℕ → Type 0) (total at : ℕ) (k : TokenKind) (more : List TokenKind) (ready : List Thread) (waiting : List (List Thread)) (ds : List ℕ) (forks : List Fork) : Type 0 where
+pub record Entered (low : ℕ → Type 0) (top total at : ℕ) (k : TokenKind) (more : List TokenKind) (ready : List Thread) (waiting : List (List Thread)) (ds : List ℕ) (forks : List Fork) : Type 0 where
   pub news : List Bool
   pub later : List Fork
   pub few : (news ≡ []) ⊎ ((b : Bool) × (news ≡ b ∷ []))
   pub forks_were : forks ≡ noted (k ∷ more) news ++ later
-  pub now : AtToken low total at k more (entered (look_of (k ∷ more)) ready) (entered_waiting ready waiting) (chosen_with at news ds) later
+  pub now : AtToken low top total at k more (entered (look_of (k ∷ more)) ready) (entered_waiting ready waiting) (chosen_with at news ds) later
 
 chosen_front : (at : ℕ) (news : List Bool) (a b : List ℕ) → chosen_with at news (a ++ b) ≡ chosen_with at news a ++ b
 chosen_front at [] a b = refl
@@ -57,9 +57,9 @@ entered_inside k more ready waiting h = (rw h refl, rw h refl)
 
 -- ---- no brace begins
 
-enter_reads : (low : ℕ → Type 0) → ((n : ℕ) → low (n + 1) → low n) → (total at : ℕ) (k : TokenKind) (more : List TokenKind) (live ready : List Thread) (waiting : List (List Thread)) (ds : List ℕ) (forks : List Fork)
-    → (t : Tracked low total at (k ∷ more) live waiting ds forks) → (r : Readied low at (k ∷ more) ready t.root t.goal t.from t.end t.height t.told t.x.choices t.inner) → waits_for r.x ≡ None → Entered low total at k more ready waiting ds forks
-enter_reads low falls total at k more live ready waiting ds forks t r w =
+enter_reads : (low : ℕ → Type 0) → ((n : ℕ) → low (n + 1) → low n) → (top total at : ℕ) (k : TokenKind) (more : List TokenKind) (live ready : List Thread) (waiting : List (List Thread)) (ds : List ℕ) (forks : List Fork)
+    → (t : Tracked low top total at (k ∷ more) live waiting ds forks) → (r : Readied low at (k ∷ more) ready t.root t.goal t.from t.end t.height t.told t.x.choices t.inner) → waits_for r.x ≡ None → Entered low top total at k more ready waiting ds forks
+enter_reads low falls top total at k more live ready waiting ds forks t r w =
     let tokens = k ∷ more in
     let look = look_of tokens in
     let good_x : Readable t.root t.from tokens r.x = each_at (Readable t.root t.from tokens) r.before r.after r.x (subst (Each (Readable t.root t.from tokens)) r.ready_is r.good) in
@@ -69,7 +69,7 @@ enter_reads low falls total at k more live ready waiting ds forks t r w =
     let both = each_both (Readable t.root t.from tokens) (λ (y : Thread). waits_for y ≡ None) ready r.good none in
     let same = entered_same k more ready waiting (none_wait ready none) in
     let on = reads_on low t.told r.calmer r.x at k more t.end t.height r.later r.reads w r.path in
-    let now : AtToken low total at k more ready waiting (chosen_with at r.news ds) (r.later ++ t.outer) = record {
+    let now : AtToken low top total at k more ready waiting (chosen_with at r.news ds) (r.later ++ t.outer) = record {
       root = t.root;
       goal = t.goal;
       from = t.from;
@@ -100,8 +100,8 @@ enter_reads low falls total at k more live ready waiting ds forks t r w =
       later = r.later ++ t.outer;
       few = r.few;
       forks_were = t.forks_are ∙ ap (λ (l : List Fork). l ++ t.outer) r.forks_are ∙ append_assoc (noted tokens r.news) r.later t.outer;
-      now = subst (λ (l : List Thread). AtToken low total at k more l (entered_waiting ready waiting) (chosen_with at r.news ds) (r.later ++ t.outer)) (sym same.0)
-          (subst (λ (l : List (List Thread)). AtToken low total at k more ready l (chosen_with at r.news ds) (r.later ++ t.outer)) (sym same.1) now);
+      now = subst (λ (l : List Thread). AtToken low top total at k more l (entered_waiting ready waiting) (chosen_with at r.news ds) (r.later ++ t.outer)) (sym same.0)
+          (subst (λ (l : List (List Thread)). AtToken low top total at k more ready l (chosen_with at r.news ds) (r.later ++ t.outer)) (sym same.1) now);
     }
 
 -- ---- a brace begins
@@ -126,15 +126,15 @@ other_dead more end q g d five differs e p dd =
     let b = begun (look_of (kind.LeftBrace ∷ more)) g d in
     differs (sym ((read_keeps b).1 ∙ (opens (kind.LeftBrace ∷ more) g d five).own_goal) ∙ e)
 
-enter_waits : (low : ℕ → Type 0) → ((n : ℕ) → low (n + 1) → low n) → (total at : ℕ) (more : List TokenKind) (live ready : List Thread) (waiting : List (List Thread)) (ds : List ℕ) (forks : List Fork)
-    → (t : Tracked low total at (kind.LeftBrace ∷ more) live waiting ds forks) → (r : Readied low at (kind.LeftBrace ∷ more) ready t.root t.goal t.from t.end t.height t.told t.x.choices t.inner)
+enter_waits : (low : ℕ → Type 0) → ((n : ℕ) → low (n + 1) → low n) → (top total at : ℕ) (more : List TokenKind) (live ready : List Thread) (waiting : List (List Thread)) (ds : List ℕ) (forks : List Fork)
+    → (t : Tracked low top total at (kind.LeftBrace ∷ more) live waiting ds forks) → (r : Readied low at (kind.LeftBrace ∷ more) ready t.root t.goal t.from t.end t.height t.told t.x.choices t.inner)
     → (mid : List TokenKind) (inner_height : ℕ) (inner outer : List Fork) (p : Part) → r.later ≡ inner ++ outer → waits_for r.x ≡ Some p → (t.told ≡ true → low (at + 1) → (met_part p r.x).deep ≡ false)
     → ((depth : ℕ) (heard : Bool) → (heard ≡ true → (t.told ≡ true) × (depth ≤ (met_part p r.x).depth)) → Path true low heard false (begun (look_of (kind.LeftBrace ∷ more)) p depth) at (kind.LeftBrace ∷ more) mid inner_height inner)
     → (t.told ≡ true → low (at + (length (kind.LeftBrace ∷ more) - length mid)) → (received (own_height p inner_height) (met_part p r.x)).deep ≡ false)
     → Path true low t.told false (received (own_height p inner_height) (met_part p r.x)) (at + (length (kind.LeftBrace ∷ more) - length mid)) mid t.end t.height outer
-    → Entered low total at kind.LeftBrace more ready waiting ds forks
+    → Entered low top total at kind.LeftBrace more ready waiting ds forks
 unfolding number_of
-enter_waits low falls total at more live ready waiting ds forks t r mid inner_height inner outer p later_is w shallow go then_shallow then_path =
+enter_waits low falls top total at more live ready waiting ds forks t r mid inner_height inner outer p later_is w shallow go then_shallow then_path =
     let tokens = kind.LeftBrace ∷ more in
     let look = look_of tokens in
     let y = met_part p r.x in
@@ -157,13 +157,13 @@ enter_waits low falls total at more live ready waiting ds forks t r mid inner_he
     let then_at = at + (length tokens - length mid) in
     let place : then_at + length mid ≡ total = omega (arith, t.place, fits) in
     let choices_of_y : y.choices ≡ chosen_with at r.news t.x.choices = met_choices p r.x ∙ r.choices_are in
-    let around : Around low total (those ∷ waiting) p tokens mid inner_height false (y.choices ++ t.cs) (outer ++ t.outer) =
+    let around : Around low top total (those ∷ waiting) p tokens mid inner_height false (y.choices ++ t.cs) (outer ++ t.outer) =
     in_brace those (those_waiting r.before) (those_waiting r.after) waiting y p t.goal t.from tokens mid t.end t.told t.root then_at inner_height t.height t.cs outer t.outer
     those_is (met_waits p p r.x w) ((met_part_keeps p r.x).1 ∙ r.goal_is)
     (those_each (Dead t.goal tokens t.end) (Dead t.goal tokens t.end) r.before (λ u q k. met_dead t.goal tokens t.end u q k) r.dead)
     (those_each (Readable t.root t.from tokens) (Good t.root t.from tokens) ready (λ u q k. met_good t.root t.from tokens u q k.0) r.good)
     then_shallow then_path place (hears_later low falls t.told at then_at (omega arith) t.hears) t.around in
-    let now : AtToken low total at kind.LeftBrace more (inside look those) (those ∷ waiting) (chosen_with at r.news ds) (inner ++ (outer ++ t.outer)) = record {
+    let now : AtToken low top total at kind.LeftBrace more (inside look those) (those ∷ waiting) (chosen_with at r.news ds) (inner ++ (outer ++ t.outer)) = record {
       root = false;
       goal = p;
       from = tokens;
@@ -194,8 +194,8 @@ enter_waits low falls total at more live ready waiting ds forks t r mid inner_he
       few = r.few;
       forks_were = t.forks_are ∙ ap (λ (l : List Fork). l ++ t.outer) (r.forks_are ∙ ap (λ (l : List Fork). noted tokens r.news ++ l) later_is)
           ∙ append_assoc (noted tokens r.news) (inner ++ outer) t.outer ∙ ap (λ (l : List Fork). noted tokens r.news ++ l) (append_assoc inner outer t.outer);
-      now = subst (λ (l : List Thread). AtToken low total at kind.LeftBrace more l (entered_waiting ready waiting) (chosen_with at r.news ds) (inner ++ (outer ++ t.outer))) (sym same.0)
-          (subst (λ (l : List (List Thread)). AtToken low total at kind.LeftBrace more (inside look those) l (chosen_with at r.news ds) (inner ++ (outer ++ t.outer))) (sym same.1) now);
+      now = subst (λ (l : List Thread). AtToken low top total at kind.LeftBrace more l (entered_waiting ready waiting) (chosen_with at r.news ds) (inner ++ (outer ++ t.outer))) (sym same.0)
+          (subst (λ (l : List (List Thread)). AtToken low top total at kind.LeftBrace more (inside look those) l (chosen_with at r.news ds) (inner ++ (outer ++ t.outer))) (sym same.1) now);
     }
 
 -- ---- both
@@ -236,20 +236,20 @@ waits_or low told calm t at k more end height forks l h (path_waits _ _ _ _ _ mi
   then_path = path;
 })
 
-enter_brace : (low : ℕ → Type 0) → ((n : ℕ) → low (n + 1) → low n) → (total at : ℕ) (k : TokenKind) (more : List TokenKind) (live ready : List Thread) (waiting : List (List Thread)) (ds : List ℕ) (forks : List Fork) → k ≡ kind.LeftBrace
-    → (t : Tracked low total at (k ∷ more) live waiting ds forks) → (r : Readied low at (k ∷ more) ready t.root t.goal t.from t.end t.height t.told t.x.choices t.inner) → WaitsOn low t.told r.x at k more t.end t.height r.later
-    → Entered low total at k more ready waiting ds forks
-enter_brace low falls total at k more live ready waiting ds forks e =
-    subst (λ (j : TokenKind). (t : Tracked low total at (j ∷ more) live waiting ds forks) → (r : Readied low at (j ∷ more) ready t.root t.goal t.from t.end t.height t.told t.x.choices t.inner) → WaitsOn low t.told r.x at j more t.end t.height r.later
-    → Entered low total at j more ready waiting ds forks) (sym e)
-    (λ t r on. enter_waits low falls total at more live ready waiting ds forks t r on.mid on.inner_height on.inner on.outer on.p on.later_is on.waits on.shallow on.go on.then_shallow on.then_path)
+enter_brace : (low : ℕ → Type 0) → ((n : ℕ) → low (n + 1) → low n) → (top total at : ℕ) (k : TokenKind) (more : List TokenKind) (live ready : List Thread) (waiting : List (List Thread)) (ds : List ℕ) (forks : List Fork) → k ≡ kind.LeftBrace
+    → (t : Tracked low top total at (k ∷ more) live waiting ds forks) → (r : Readied low at (k ∷ more) ready t.root t.goal t.from t.end t.height t.told t.x.choices t.inner) → WaitsOn low t.told r.x at k more t.end t.height r.later
+    → Entered low top total at k more ready waiting ds forks
+enter_brace low falls top total at k more live ready waiting ds forks e =
+    subst (λ (j : TokenKind). (t : Tracked low top total at (j ∷ more) live waiting ds forks) → (r : Readied low at (j ∷ more) ready t.root t.goal t.from t.end t.height t.told t.x.choices t.inner) → WaitsOn low t.told r.x at j more t.end t.height r.later
+    → Entered low top total at j more ready waiting ds forks) (sym e)
+    (λ t r on. enter_waits low falls top total at more live ready waiting ds forks t r on.mid on.inner_height on.inner on.outer on.p on.later_is on.waits on.shallow on.go on.then_shallow on.then_path)
 
-pub enter_path : (low : ℕ → Type 0) → ((n : ℕ) → low (n + 1) → low n) → (total at : ℕ) (k : TokenKind) (more : List TokenKind) (live : List Thread) (waiting : List (List Thread)) (ds : List ℕ) (forks : List Fork)
-    → Tracked low total at (k ∷ more) live waiting ds forks → Entered low total at k more (settled_all (look_of (k ∷ more)) at live) waiting ds forks
-enter_path low falls total at k more live waiting ds forks t =
+pub enter_path : (low : ℕ → Type 0) → ((n : ℕ) → low (n + 1) → low n) → (top total at : ℕ) (k : TokenKind) (more : List TokenKind) (live : List Thread) (waiting : List (List Thread)) (ds : List ℕ) (forks : List Fork)
+    → Tracked low top total at (k ∷ more) live waiting ds forks → Entered low top total at k more (settled_all (look_of (k ∷ more)) at live) waiting ds forks
+enter_path low falls top total at k more live waiting ds forks t =
     let ready = settled_all (look_of (k ∷ more)) at live in
-    let r = readied low total at (k ∷ more) live waiting ds forks t in
+    let r = readied low top total at (k ∷ more) live waiting ds forks t in
     elim (waits_or low t.told r.calmer r.x at k more t.end t.height r.later t.shorter r.reads r.path) [
-      | inl none ↦ enter_reads low falls total at k more live ready waiting ds forks t r none
-      | inr on ↦ enter_brace low falls total at k more live ready waiting ds forks on.brace t r on
+      | inl none ↦ enter_reads low falls top total at k more live ready waiting ds forks t r none
+      | inr on ↦ enter_brace low falls top total at k more live ready waiting ds forks on.brace t r on
     ]

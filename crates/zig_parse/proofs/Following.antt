@@ -23,7 +23,7 @@ use Rattle.zig_parse.specs.Threads.{collapses, fresh, opened, put}
 use Rattle.zig_parse.specs.Moves.{settled_all}
 use Rattle.zig_parse.specs.Choices.{choices, matching}
 use Rattle.zig_parse.specs.Passes.{after_token, alone, begun, marked, marked_alone, verdict_of}
-use Rattle.zig_parse.specs.Surveys.{entered, entered_waiting, first_state, judged, look_at, next_live, next_marks, next_state, next_verdict, read_live, read_waiting, surveyed}
+use Rattle.zig_parse.specs.Surveys.{entered, entered_waiting, first_state, is_spared, judged, look_at, next_live, next_marks, next_state, next_verdict, read_live, read_waiting, surveyed}
 use Rattle.zig_parse.specs.Growth.{is_second}
 use Rattle.zig_parse.specs.Trees.{kinds_of}
 use Rattle.zig_parse.proofs.Spelled.{look_here}
@@ -41,35 +41,35 @@ use Rattle.zig_parse.proofs.Marks.{Open, Noted, Agree, marked_joined, chosen_not
 
 -- ---- a token
 
-pub record Stepped (low : ℕ → Type 0) (total at : ℕ) (k : TokenKind) (more : List TokenKind) (s : State) (ds : List ℕ) (forks : List Fork) : Type 0 where
+pub record Stepped (low : ℕ → Type 0) (top total at : ℕ) (k : TokenKind) (more : List TokenKind) (s : State) (ds : List ℕ) (forks : List Fork) : Type 0 where
   pub news : List Bool
   pub later : List Fork
   pub few : (news ≡ []) ⊎ ((b : Bool) × (news ≡ b ∷ []))
   pub forks_were : forks ≡ noted (k ∷ more) news ++ later
-  pub off : LeftOff low total at more (next_live (look_of (k ∷ more)) at s) (next_state (look_of (k ∷ more)) at s).waiting (chosen_with at news ds) later
+  pub off : LeftOff low top total at k more (next_live (look_of (k ∷ more)) at s) (next_state (look_of (k ∷ more)) at s).waiting (chosen_with at news ds) later
 
-pub step_path : (low : ℕ → Type 0) → ((n : ℕ) → low (n + 1) → low n) → (total at : ℕ) (k : TokenKind) (more : List TokenKind) (s : State) (ds : List ℕ) (forks : List Fork)
-    → Tracked low total at (k ∷ more) s.live s.waiting ds forks → Stepped low total at k more s ds forks
+pub step_path : (low : ℕ → Type 0) → ((n : ℕ) → low (n + 1) → low n) → (top total at : ℕ) (k : TokenKind) (more : List TokenKind) (s : State) (ds : List ℕ) (forks : List Fork)
+    → Tracked low top total at (k ∷ more) s.live s.waiting ds forks → Stepped low top total at k more s ds forks
 unfolding next_live next_state read_live read_waiting
-step_path low falls total at k more s ds forks t =
+step_path low falls top total at k more s ds forks t =
     let look = look_of (k ∷ more) in
-    let e = enter_path low falls total at k more s.live s.waiting ds forks t in
+    let e = enter_path low falls top total at k more s.live s.waiting ds forks t in
     let ready = entered look (settled_all look at s.live) in
     let waiting = entered_waiting (settled_all look at s.live) s.waiting in
-    let a = after_path low total at k more ready waiting (chosen_with at e.news ds) e.later e.now in
+    let a = after_path low top total at k more ready waiting (chosen_with at e.news ds) e.later e.now in
     record {
       news = e.news;
       later = e.later;
       few = e.few;
       forks_were = e.forks_were;
-      off = leave_path low total at k more (after_token [] ready) waiting (chosen_with at e.news ds) e.later a;
+      off = leave_path low top total at k more (after_token [] ready) waiting (chosen_with at e.news ds) e.later a;
     }
 
 -- ---- one thread alone
 
-pub record Alone (low : ℕ → Type 0) (total at : ℕ) (tokens : List TokenKind) (live : List Thread) (waiting : List (List Thread)) (ds : List ℕ) (forks : List Fork) (marks : List Bool) : Type 0 where
+pub record Alone (low : ℕ → Type 0) (top total at : ℕ) (tokens : List TokenKind) (live : List Thread) (waiting : List (List Thread)) (ds : List ℕ) (forks : List Fork) (marks : List Bool) : Type 0 where
   pub es : List ℕ
-  pub state : Tracked low total at tokens (alone live) waiting es forks
+  pub state : Tracked low top total at tokens (alone live) waiting es forks
   pub same : marked es (marked_alone live marks) ≡ marked ds marks
 
 only : (t x : Thread) (before after : List Thread) → t ∷ [] ≡ before ++ x ∷ after → (before ≡ []) × (x ≡ t)
@@ -81,15 +81,15 @@ only t x (u ∷ v ∷ before) after e = absurd (cc)
 own_good : (root : Bool) (from tokens : List TokenKind) (t : Thread) (cs : List ℕ) → Good root from tokens t → Good root from tokens (own cs t)
 own_good root from tokens t cs g = record { sound = g.sound; tidies = g.tidies; rooted = g.rooted }
 
-pub alone_path : (low : ℕ → Type 0) (total at : ℕ) (tokens : List TokenKind) (live : List Thread) (waiting : List (List Thread)) (ds : List ℕ) (forks : List Fork) (marks : List Bool)
-    → Tracked low total at tokens live waiting ds forks → Alone low total at tokens live waiting ds forks marks
-alone_path low total at tokens [] waiting ds forks marks t = absurd (none t.before t.x t.after t.live_is)
+pub alone_path : (low : ℕ → Type 0) (top total at : ℕ) (tokens : List TokenKind) (live : List Thread) (waiting : List (List Thread)) (ds : List ℕ) (forks : List Fork) (marks : List Bool)
+    → Tracked low top total at tokens live waiting ds forks → Alone low top total at tokens live waiting ds forks marks
+alone_path low top total at tokens [] waiting ds forks marks t = absurd (none t.before t.x t.after t.live_is)
   where
     none : (b : List Thread) (x : Thread) (a : List Thread) → [] ≡ b ++ x ∷ a → ⊥
     none [] x a e = cc
     none (u ∷ b) x a e = cc
-alone_path low total at tokens (u ∷ v ∷ more) waiting ds forks marks t = record { es = ds; state = t; same = refl }
-alone_path low total at tokens (u ∷ []) waiting ds forks marks t =
+alone_path low top total at tokens (u ∷ v ∷ more) waiting ds forks marks t = record { es = ds; state = t; same = refl }
+alone_path low top total at tokens (u ∷ []) waiting ds forks marks t =
     let o = only u t.x t.before t.after t.live_is in
     record {
       es = t.cs;
@@ -155,7 +155,7 @@ surveyed_none : (at : ℕ) (tokens : List Token) (s : State) (marks : List Bool)
 unfolding surveyed
 surveyed_none at tokens s marks = refl
 
-verdict_is : (look : Look) (at : ℕ) (s : State) → next_verdict look at s ≡ verdict_of (next_live look at s)
+verdict_is : (look : Look) (at : ℕ) (s : State) → next_verdict look at s ≡ verdict_of (is_spared look at s) (next_live look at s)
 unfolding next_verdict
 verdict_is look at s = refl
 
@@ -202,27 +202,27 @@ accepts_next : (low : ℕ → Type 0) (total n at : ℕ) (tokens : List Token) (
 accepts_next low total n at tokens s marks s2 marks2 e (inl lows) = inl lows
 accepts_next low total n at tokens s marks s2 marks2 e (inr h) = inr (h.0, sym e ∙ h.1)
 
-pub run : (low : ℕ → Type 0) → ((n : ℕ) → low (n + 1) → low n) → (total n at : ℕ) (tokens : List Token) (s : State) (marks : List Bool) (ds : List ℕ) (forks : List Fork) (kinds : List TokenKind)
-    → Tracked low total at kinds s.live s.waiting ds forks → length kinds ≡ n → Looks tokens at n kinds → Accepts low total n at tokens s marks → Open total at (marked ds marks) → Surveyed total n at tokens s marks (marked ds marks) forks
-run low falls total n at tokens s marks ds forks [] t l looks lows o = absurd (let h = t.shorter in omega (arith, h))
-run low falls total zero at tokens s marks ds forks (k ∷ more) t l looks lows o = absurd (omega (arith, l))
-run low falls total (suc n) at tokens s marks ds forks (k ∷ more) t l looks lows o =
+pub run : (low : ℕ → Type 0) → ((n : ℕ) → low (n + 1) → low n) → (top total n at : ℕ) (tokens : List Token) (s : State) (marks : List Bool) (ds : List ℕ) (forks : List Fork) (kinds : List TokenKind)
+    → Tracked low top total at kinds s.live s.waiting ds forks → length kinds ≡ n → Looks tokens at n kinds → Accepts low total n at tokens s marks → Open total at (marked ds marks) → Surveyed total n at tokens s marks (marked ds marks) forks
+run low falls top total n at tokens s marks ds forks [] t l looks lows o = absurd (let h = t.shorter in omega (arith, h))
+run low falls top total zero at tokens s marks ds forks (k ∷ more) t l looks lows o = absurd (omega (arith, l))
+run low falls top total (suc n) at tokens s marks ds forks (k ∷ more) t l looks lows o =
     let look = look_of (k ∷ more) in
     let place : at + suc (length more) ≡ total = t.place in
-    let st = step_path low falls total at k more s ds forks t in
+    let st = step_path low falls top total at k more s ds forks t in
     let here = looks_here tokens at n (k ∷ more) looks in
-    let fine = fine_here low falls total n at tokens s marks look (omega (arith, place)) here (λ e. verdict_is look at s ∙ st.off.fine e) lows in
+    let fine = fine_here low falls total n at tokens s marks look (omega (arith, place)) here (λ e. verdict_is look at s ∙ st.off.fine (is_spared look at s) e) lows in
     let one = surveyed_step n at tokens s marks look here fine in
     let new = marked (chosen_with at st.news ds) marks in
     let k2 : Noted at st.news (marked ds marks) new = chosen_noted total at st.news ds marks (omega (arith, place)) o in
     let open2 = noted_open total at st.news ds marks o k2 in
     elim st.off.state [
       | inl tracked ↦
-          let a = alone_path low total (at + 1) more (next_live look at s) (next_state look at s).waiting (chosen_with at st.news ds) st.later marks tracked in
+          let a = alone_path low top total (at + 1) more (next_live look at s) (next_state look at s).waiting (chosen_with at st.news ds) st.later marks tracked in
           let marks2 = next_marks look at s marks in
           let same : marked a.es marks2 ≡ new = ap (marked a.es) (marks_are look at s marks) ∙ a.same in
-          let state2 : Tracked low total (at + 1) more (next_state look at s).live (next_state look at s).waiting a.es st.later = subst (λ (u : List Thread). Tracked low total (at + 1) more u (next_state look at s).waiting a.es st.later) (sym (state_live look at s)) a.state in
-          let rest = run low falls total n (at + 1) tokens (next_state look at s) marks2 a.es st.later more state2 (omega (arith, l)) (looks_next tokens at n k more looks) (accepts_next low total n at tokens s marks (next_state look at s) marks2 one lows) (subst (Open total (at + 1)) (sym same) open2) in
+          let state2 : Tracked low top total (at + 1) more (next_state look at s).live (next_state look at s).waiting a.es st.later = subst (λ (u : List Thread). Tracked low top total (at + 1) more u (next_state look at s).waiting a.es st.later) (sym (state_live look at s)) a.state in
+          let rest = run low falls top total n (at + 1) tokens (next_state look at s) marks2 a.es st.later more state2 (omega (arith, l)) (looks_next tokens at n k more looks) (accepts_next low total n at tokens s marks (next_state look at s) marks2 one lows) (subst (Open total (at + 1)) (sym same) open2) in
           back_to total (suc n) at tokens s marks ds forks (k ∷ more) st.news st.later rest.found new place st.few st.forks_were k2 (one ∙ rest.accepts) (λ i j. rest.earlier i j ∙ ap (λ (m : List Bool). is_second m i) same) rest.agree
       | inr ended ↦
           let none : n ≡ 0 = (let e = ap length ended.no_tokens in omega (arith, l, e)) in
@@ -285,11 +285,11 @@ step_wrong low m at tokens s marks look a e some fine h =
     (subst (λ (l : Look). Wrong low (judged (next_verdict l at s) (surveyed m (at + 1) tokens (next_state l at s) (next_marks l at s marks)) l.kind at) a) e h)
 
 -- where the next tokens are those of a path none of them is refused without a reason
-pub front_run : (low : ℕ → Type 0) → ((n : ℕ) → low (n + 1) → low n) → (total n m at : ℕ) (tokens : List Token) (s : State) (marks : List Bool) (ds : List ℕ) (forks : List Fork) (kinds : List TokenKind) (a : ℕ)
-    → Tracked low total at kinds s.live s.waiting ds forks → n ≤ length kinds → Looks tokens at n kinds → Wrong low (surveyed m at tokens s marks) a → at + n ≤ a
-front_run low falls total zero m at tokens s marks ds forks kinds a t l looks h = let e = refused_from m at tokens s marks a (wrong_refused low (surveyed m at tokens s marks) a h) in omega arith
-front_run low falls total (suc n) m at tokens s marks ds forks [] a t l looks h = absurd (omega arith)
-front_run low falls total (suc n) zero at tokens s marks ds forks (k ∷ more) a t l looks h = absurd (none (wrong_refused low (surveyed 0 at tokens s marks) a h))
+pub front_run : (low : ℕ → Type 0) → ((n : ℕ) → low (n + 1) → low n) → (top total n m at : ℕ) (tokens : List Token) (s : State) (marks : List Bool) (ds : List ℕ) (forks : List Fork) (kinds : List TokenKind) (a : ℕ)
+    → Tracked low top total at kinds s.live s.waiting ds forks → n ≤ length kinds → Looks tokens at n kinds → Wrong low (surveyed m at tokens s marks) a → at + n ≤ a
+front_run low falls top total zero m at tokens s marks ds forks kinds a t l looks h = let e = refused_from m at tokens s marks a (wrong_refused low (surveyed m at tokens s marks) a h) in omega arith
+front_run low falls top total (suc n) m at tokens s marks ds forks [] a t l looks h = absurd (omega arith)
+front_run low falls top total (suc n) zero at tokens s marks ds forks (k ∷ more) a t l looks h = absurd (none (wrong_refused low (surveyed 0 at tokens s marks) a h))
   where
     none_by : (r : Result (List Bool) SyntaxFault) → r ≡ Ok marks → RefusedAt r a → ⊥
     none_by r e (inl w) = (let x = w.1 in cc)
@@ -297,18 +297,18 @@ front_run low falls total (suc n) zero at tokens s marks ds forks (k ∷ more) a
 
     none : RefusedAt (surveyed 0 at tokens s marks) a → ⊥
     none w = none_by (surveyed 0 at tokens s marks) (surveyed_none at tokens s marks) w
-front_run low falls total (suc n) (suc m) at tokens s marks ds forks (k ∷ more) a t l looks h =
+front_run low falls top total (suc n) (suc m) at tokens s marks ds forks (k ∷ more) a t l looks h =
     let look = look_of (k ∷ more) in
-    let st = step_path low falls total at k more s ds forks t in
+    let st = step_path low falls top total at k more s ds forks t in
     let here = looks_here tokens at n (k ∷ more) looks in
     let v = verdict_is look at s in
     let marks2 = next_marks look at s marks in
-    let next = step_wrong low m at tokens s marks look a here (λ e. st.off.some (sym v ∙ e)) (λ e. v ∙ st.off.fine e) h in
+    let next = step_wrong low m at tokens s marks look a here (λ e. st.off.some (is_spared look at s) (sym v ∙ e)) (λ e. v ∙ st.off.fine (is_spared look at s) e) h in
     elim st.off.state [
       | inl tracked ↦
-          let one = alone_path low total (at + 1) more (next_live look at s) (next_state look at s).waiting (chosen_with at st.news ds) st.later marks tracked in
-          let state2 : Tracked low total (at + 1) more (next_state look at s).live (next_state look at s).waiting one.es st.later = subst (λ (u : List Thread). Tracked low total (at + 1) more u (next_state look at s).waiting one.es st.later) (sym (state_live look at s)) one.state in
-          let rest = front_run low falls total n m (at + 1) tokens (next_state look at s) marks2 one.es st.later more a state2 (omega arith) (looks_next tokens at n k more looks) next in
+          let one = alone_path low top total (at + 1) more (next_live look at s) (next_state look at s).waiting (chosen_with at st.news ds) st.later marks tracked in
+          let state2 : Tracked low top total (at + 1) more (next_state look at s).live (next_state look at s).waiting one.es st.later = subst (λ (u : List Thread). Tracked low top total (at + 1) more u (next_state look at s).waiting one.es st.later) (sym (state_live look at s)) one.state in
+          let rest = front_run low falls top total n m (at + 1) tokens (next_state look at s) marks2 one.es st.later more a state2 (omega arith) (looks_next tokens at n k more looks) next in
           omega arith
       | inr ended ↦
           let e = refused_from m (at + 1) tokens (next_state look at s) marks2 a (wrong_refused low (surveyed m (at + 1) tokens (next_state look at s) marks2) a next) in
@@ -342,7 +342,7 @@ no_part : (p : Part) (ps qs : List Part) → qs ≡ p ∷ ps → qs ≡ [] → �
 no_part p ps qs e h = cc
 
 pub started : (low : ℕ → Type 0) (kinds : List TokenKind) (height : ℕ) (forks : List Fork) → Path true low true false (begun (look_of kinds) (part.Rule rule.Root) 0) 0 kinds [] height forks
-    → Tracked low (length kinds) 0 kinds (first_state (look_of kinds)).live (first_state (look_of kinds)).waiting [] forks
+    → Tracked low height (length kinds) 0 kinds (first_state (look_of kinds)).live (first_state (look_of kinds)).waiting [] forks
 unfolding first_state
 started low kinds height forks path =
     let x = begun (look_of kinds) (part.Rule rule.Root) 0 in
@@ -368,7 +368,7 @@ started low kinds height forks path =
       good = (good, tt);
       dead = tt;
       hears = inl refl;
-      around = at_root kinds height;
+      around = at_root kinds;
       choices_are = ap (λ (l : List ℕ). l ++ []) (sym (root_goal kinds).1);
       forks_are = nil_behind forks;
       place = omega arith;
@@ -380,7 +380,7 @@ kinds_length : (tokens : List Token) → length (kinds_of tokens) ≡ length tok
 kinds_length [] = refl
 kinds_length (t ∷ ts) = ap suc (kinds_length ts)
 
-whole_looks : (tokens : List Token) (n : ℕ) → Looks tokens 0 n (kinds_of tokens)
+pub whole_looks : (tokens : List Token) (n : ℕ) → Looks tokens 0 n (kinds_of tokens)
 whole_looks tokens n i l = ap (look_at tokens) (omega arith) ∙ look_here tokens i
 
 -- all tokens are accepted, and the marks agree with the choices
@@ -403,8 +403,8 @@ survey_follows low falls tokens height forks path lows =
     let marks = replicate n false in
     let first : look_at tokens 0 ≡ look_of kinds = look_here tokens 0 in
     let state = first_state (look_of kinds) in
-    let t : Tracked low n 0 kinds state.live state.waiting [] forks = subst (λ (k : ℕ). Tracked low k 0 kinds state.live state.waiting [] forks) same (started low kinds height forks path) in
-    let r = run low falls n n 0 tokens state marks [] forks kinds t same (whole_looks tokens n) (subst (λ (l : Look). Accepts low n n 0 tokens (first_state l) marks) first lows) (subst (Open n 0) (sym (marked_none marks)) (open_first n)) in
+    let t : Tracked low height n 0 kinds state.live state.waiting [] forks = subst (λ (k : ℕ). Tracked low height k 0 kinds state.live state.waiting [] forks) same (started low kinds height forks path) in
+    let r = run low falls height n n 0 tokens state marks [] forks kinds t same (whole_looks tokens n) (subst (λ (l : Look). Accepts low n n 0 tokens (first_state l) marks) first lows) (subst (Open n 0) (sym (marked_none marks)) (open_first n)) in
     record {
       found = r.found;
       accepts = ap (λ (l : Look). surveyed n 0 tokens (first_state l) marks) first ∙ r.accepts;
@@ -418,7 +418,7 @@ front_follows low falls kinds height forks path tokens zero m a marks l looks h 
 front_follows low falls kinds height forks path tokens (suc n) m a marks l looks h =
     let first : look_at tokens 0 ≡ look_of kinds = looks_here tokens 0 n kinds looks in
     let state = first_state (look_of kinds) in
-    let e = front_run low falls (length kinds) (suc n) m 0 tokens state marks [] forks kinds a (started low kinds height forks path) l looks
+    let e = front_run low falls height (length kinds) (suc n) m 0 tokens state marks [] forks kinds a (started low kinds height forks path) l looks
     (subst (λ (u : Look). Wrong low (surveyed m 0 tokens (first_state u) marks) a) first h) in
     omega arith
 

@@ -1,6 +1,6 @@
 -- After a token the first pass has the thread of the path still, also where the token ends a brace.
 use Rattle.std.proofs.Common.{◌≡◌, ℕ, ◌+◌, Bool, true, false, ◌&&◌, ◌||◌, ◌⊎◌, inl, inr, List, [], ◌∷◌, ◌++◌, map, length, reverse, Option, Some, None, refl, sym, ◌∙◌, ap, subst, arith, append_assoc, append-nil}
-use Rattle.std.specs.Prelude.{if◌then◌else◌, nat_eq}
+use Rattle.std.specs.Prelude.{if◌then◌else◌, nat_eq, not}
 use Rattle.std.proofs.lemmas.Bool.{and_from}
 use Rattle.zig_tree.specs.declared.token.TokenKind.{TokenKind}
 use Rattle.zig_tree.specs.declared.token.TokenKind.TheVariants as kind
@@ -40,7 +40,7 @@ use Rattle.zig_parse.proofs.Entering.{each_both, each_front, part_is}
 -- ---- the token is read
 
 -- after the token, where what has read it may have reached the end of its brace
-pub record AfterToken (low : ℕ → Type 0) (total at : ℕ) (k : TokenKind) (more : List TokenKind) (live : List Thread) (waiting : List (List Thread)) (ds : List ℕ) (forks : List Fork) : Type 0 where
+pub record AfterToken (low : ℕ → Type 0) (top total at : ℕ) (k : TokenKind) (more : List TokenKind) (live : List Thread) (waiting : List (List Thread)) (ds : List ℕ) (forks : List Fork) : Type 0 where
   pub root : Bool
   pub goal : Part
   pub from : List TokenKind
@@ -60,7 +60,7 @@ pub record AfterToken (low : ℕ → Type 0) (total at : ℕ) (k : TokenKind) (m
   pub gone : Each (Gone root from k more) live
   pub dead : Each (Dead goal more end) before
   pub hears : (told ≡ true) ⊎ (low (at + 1) → ⊥)
-  pub around : Around low total waiting goal from end height root cs outer
+  pub around : Around low top total waiting goal from end height root cs outer
   pub choices_are : ds ≡ x.choices ++ cs
   pub forks_are : forks ≡ inner ++ outer
   pub place : at + 1 + length more ≡ total
@@ -78,9 +78,9 @@ read_choices : (t : Thread) → (after_read t).choices ≡ t.choices
 unfolding after_read
 read_choices t = ap (λ (u : Thread). u.choices) (read_own t.choices t)
 
-pub after_path : (low : ℕ → Type 0) (total at : ℕ) (k : TokenKind) (more : List TokenKind) (ready : List Thread) (waiting : List (List Thread)) (ds : List ℕ) (forks : List Fork)
-    → AtToken low total at k more ready waiting ds forks → AfterToken low total at k more (after_token [] ready) waiting ds forks
-after_path low total at k more ready waiting ds forks t =
+pub after_path : (low : ℕ → Type 0) (top total at : ℕ) (k : TokenKind) (more : List TokenKind) (ready : List Thread) (waiting : List (List Thread)) (ds : List ℕ) (forks : List Fork)
+    → AtToken low top total at k more ready waiting ds forks → AfterToken low top total at k more (after_token [] ready) waiting ds forks
+after_path low top total at k more ready waiting ds forks t =
     let x = after_read t.x in
     let goal_is : x.goal ≡ t.goal = (read_keeps t.x).1 ∙ t.goal_is in
     let d = path_derives low t.told false x (at + 1) more t.end t.height t.inner t.path in
@@ -142,25 +142,28 @@ no_parts (i ∷ is) e = absurd (cc)
 -- ---- what is left off
 
 -- the last token is read
-pub record Ended (more : List TokenKind) (live : List Thread) (ds : List ℕ) (forks : List Fork) : Type 0 where
+pub record Ended (top : ℕ) (k : TokenKind) (more : List TokenKind) (live : List Thread) (ds : List ℕ) (forks : List Fork) : Type 0 where
   pub x : Thread
   pub live_is : live ≡ x ∷ []
   pub no_tokens : more ≡ []
+  pub last : k ≡ kind.End
+  pub tall : top ≡ risen 0 x.frames
+  pub goal_is : x.goal ≡ part.Rule rule.Root
   pub no_forks : forks ≡ []
   pub choices_are : ds ≡ x.choices
 
-pub record LeftOff (low : ℕ → Type 0) (total at : ℕ) (more : List TokenKind) (live : List Thread) (waiting : List (List Thread)) (ds : List ℕ) (forks : List Fork) : Type 0 where
-  pub state : Tracked low total (at + 1) more live waiting ds forks ⊎ Ended more live ds forks
-  pub some : verdict_of live ≡ verdict.Unexpected → ⊥
-  pub fine : low (at + 1) → verdict_of live ≡ verdict.Fine
+pub record LeftOff (low : ℕ → Type 0) (top total at : ℕ) (k : TokenKind) (more : List TokenKind) (live : List Thread) (waiting : List (List Thread)) (ds : List ℕ) (forks : List Fork) : Type 0 where
+  pub state : Tracked low top total (at + 1) more live waiting ds forks ⊎ Ended top k more live ds forks
+  pub some : (spared : Bool) → verdict_of spared live ≡ verdict.Unexpected → ⊥
+  pub fine : (spared : Bool) → low (at + 1) → verdict_of spared live ≡ verdict.Fine
 
 some_by : (t : Thread) (ts : List Thread) (b : Bool) → (if b then verdict.TooDeep else verdict.Fine) ≡ verdict.Unexpected → ⊥
 some_by t ts true h = cc
 some_by t ts false h = cc
 
-verdict_some : (b a : List Thread) (x : Thread) → verdict_of (b ++ x ∷ a) ≡ verdict.Unexpected → ⊥
-verdict_some [] a x h = some_by x a (all_deep (x ∷ a)) h
-verdict_some (t ∷ b) a x h = some_by t (b ++ x ∷ a) (all_deep (t ∷ (b ++ x ∷ a))) h
+verdict_some : (b a : List Thread) (x : Thread) (spared : Bool) → verdict_of spared (b ++ x ∷ a) ≡ verdict.Unexpected → ⊥
+verdict_some [] a x spared h = some_by x a (all_deep (x ∷ a) && not spared) h
+verdict_some (t ∷ b) a x spared h = some_by t (b ++ x ∷ a) (all_deep (t ∷ (b ++ x ∷ a)) && not spared) h
 
 and_no : (x : Bool) → (x && false) ≡ false
 and_no true = refl
@@ -171,16 +174,16 @@ unfolding all_deep
 deep_no [] a x h = rw h refl
 deep_no (t ∷ b) a x h = ap (λ (y : Bool). t.deep && y) (deep_no b a x h) ∙ and_no t.deep
 
-verdict_fine : (b a : List Thread) (x : Thread) → x.deep ≡ false → verdict_of (b ++ x ∷ a) ≡ verdict.Fine
-verdict_fine [] a x h = ap (λ (y : Bool). if y then verdict.TooDeep else verdict.Fine) (deep_no [] a x h)
-verdict_fine (t ∷ b) a x h = ap (λ (y : Bool). if y then verdict.TooDeep else verdict.Fine) (deep_no (t ∷ b) a x h)
+verdict_fine : (b a : List Thread) (x : Thread) (spared : Bool) → x.deep ≡ false → verdict_of spared (b ++ x ∷ a) ≡ verdict.Fine
+verdict_fine [] a x spared h = ap (λ (y : Bool). if y && not spared then verdict.TooDeep else verdict.Fine) (deep_no [] a x h)
+verdict_fine (t ∷ b) a x spared h = ap (λ (y : Bool). if y && not spared then verdict.TooDeep else verdict.Fine) (deep_no (t ∷ b) a x h)
 
-off_some : (live b a : List Thread) (x : Thread) → live ≡ b ++ x ∷ a → verdict_of live ≡ verdict.Unexpected → ⊥
-off_some live b a x e h = verdict_some b a x (ap verdict_of (sym e) ∙ h)
+off_some : (live b a : List Thread) (x : Thread) → live ≡ b ++ x ∷ a → (spared : Bool) → verdict_of spared live ≡ verdict.Unexpected → ⊥
+off_some live b a x e spared h = verdict_some b a x spared (ap (verdict_of spared) (sym e) ∙ h)
 
-off_fine : (low : ℕ → Type 0) (n : ℕ) (told : Bool) (live b a : List Thread) (x : Thread) → live ≡ b ++ x ∷ a → (told ≡ true) ⊎ (low n → ⊥) → (told ≡ true → low n → x.deep ≡ false) → low n → verdict_of live ≡ verdict.Fine
-off_fine low n told live b a x e (inl t) f h = ap verdict_of e ∙ verdict_fine b a x (f t h)
-off_fine low n told live b a x e (inr never) f h = absurd (never h)
+off_fine : (low : ℕ → Type 0) (n : ℕ) (told : Bool) (live b a : List Thread) (x : Thread) → live ≡ b ++ x ∷ a → (told ≡ true) ⊎ (low n → ⊥) → (told ≡ true → low n → x.deep ≡ false) → (spared : Bool) → low n → verdict_of spared live ≡ verdict.Fine
+off_fine low n told live b a x e (inl t) f spared h = ap (verdict_of spared) e ∙ verdict_fine b a x spared (f t h)
+off_fine low n told live b a x e (inr never) f spared h = absurd (never h)
 
 -- ---- within a brace
 
@@ -208,9 +211,9 @@ gone_none root from k more y n g = elim g.left [
   | inr e ↦ absurd (both_ways (is_closing k) n e.0)
 ]
 
-stay : (low : ℕ → Type 0) (total at : ℕ) (k : TokenKind) (more : List TokenKind) (live : List Thread) (waiting : List (List Thread)) (ds : List ℕ) (forks : List Fork)
-    → AfterToken low total at k more live waiting ds forks → is_closing k ≡ false → LeftOff low total at more live waiting ds forks
-stay low total at k more live waiting ds forks t n =
+stay : (low : ℕ → Type 0) (top total at : ℕ) (k : TokenKind) (more : List TokenKind) (live : List Thread) (waiting : List (List Thread)) (ds : List ℕ) (forks : List Fork)
+    → AfterToken low top total at k more live waiting ds forks → is_closing k ≡ false → LeftOff low top total at k more live waiting ds forks
+stay low top total at k more live waiting ds forks t n =
     let gone_x : Gone t.root t.from k more t.x = each_at (Gone t.root t.from k more) t.before t.after t.x (subst (Each (Gone t.root t.from k more)) t.live_is t.gone) in
     let good_x = gone_good t.root t.from k more t.x n gone_x in
     let d = path_derives low t.told false t.x (at + 1) more t.end t.height t.inner t.path in
@@ -289,26 +292,27 @@ spent_one (s ∷ ts) b a x e h = one_of s b a x (sym (spent_kept s ts h.0 h.1) �
     one_of s (t ∷ []) a x e = absurd (cc)
     one_of s (t ∷ u ∷ b) a x e = absurd (cc)
 
-record Outermost (waiting : List (List Thread)) (end : List TokenKind) (cs : List ℕ) (outer : List Fork) : Type 0 where
+record Outermost (top height : ℕ) (waiting : List (List Thread)) (end : List TokenKind) (cs : List ℕ) (outer : List Fork) : Type 0 where
+  height_is : height ≡ top
   end_none : end ≡ []
   cs_none : cs ≡ []
   outer_none : outer ≡ []
 
-outermost : (low : ℕ → Type 0) (total : ℕ) (waiting : List (List Thread)) (goal : Part) (from end : List TokenKind) (height : ℕ) (root : Bool) (cs : List ℕ) (outer : List Fork) → root ≡ true → Around low total waiting goal from end height root cs outer → Outermost waiting end cs outer
-outermost low total waiting goal from end height root cs outer e (at_root _ _) = record { end_none = refl; cs_none = refl; outer_none = refl }
-outermost low total waiting goal from end height root cs outer e (in_brace _ _ _ _ _ _ _ _ _ _ _ _ _ _ _ _ _ _ _ _ _ _ _ _ _ _ _ _ _) = absurd (cc)
+outermost : (low : ℕ → Type 0) (top total : ℕ) (waiting : List (List Thread)) (goal : Part) (from end : List TokenKind) (height : ℕ) (root : Bool) (cs : List ℕ) (outer : List Fork) → root ≡ true → Around low top total waiting goal from end height root cs outer → Outermost top height waiting end cs outer
+outermost low top total waiting goal from end height root cs outer e (at_root _) = record { height_is = refl; end_none = refl; cs_none = refl; outer_none = refl }
+outermost low top total waiting goal from end height root cs outer e (in_brace _ _ _ _ _ _ _ _ _ _ _ _ _ _ _ _ _ _ _ _ _ _ _ _ _ _ _ _ _) = absurd (cc)
 
 root_of : (root : Bool) (k : TokenKind) → k ≡ closer root → is_kind k kind.RightBrace ≡ false → root ≡ true
 root_of true k e n = refl
 root_of false k e n = absurd (both_ways (is_kind k kind.RightBrace) (ap (λ (j : TokenKind). is_kind j kind.RightBrace) e ∙ is_kind_same kind.RightBrace) n)
 
-finish : (low : ℕ → Type 0) (total at : ℕ) (k : TokenKind) (more : List TokenKind) (live : List Thread) (waiting : List (List Thread)) (ds : List ℕ) (forks : List Fork)
-    → AfterToken low total at k more live waiting ds forks → is_closing k ≡ true → is_kind k kind.RightBrace ≡ false → LeftOff low total at more live waiting ds forks
-finish low total at k more live waiting ds forks t c n =
+finish : (low : ℕ → Type 0) (top total at : ℕ) (k : TokenKind) (more : List TokenKind) (live : List Thread) (waiting : List (List Thread)) (ds : List ℕ) (forks : List Fork)
+    → AfterToken low top total at k more live waiting ds forks → is_closing k ≡ true → is_kind k kind.RightBrace ≡ false → LeftOff low top total at k more live waiting ds forks
+finish low top total at k more live waiting ds forks t c n =
     let gone_x : Gone t.root t.from k more t.x = each_at (Gone t.root t.from k more) t.before t.after t.x (subst (Each (Gone t.root t.from k more)) t.live_is t.gone) in
     let none_x = gone_none t.root t.from k more t.x c gone_x in
     let root : t.root ≡ true = root_of t.root k none_x.0 n in
-    let out = outermost low total waiting t.goal t.from t.end t.height t.root t.cs t.outer root t.around in
+    let out = outermost low top total waiting t.goal t.from t.end t.height t.root t.cs t.outer root t.around in
     let done = path_done low t.told false t.x (at + 1) more t.end t.height t.inner (no_parts t.x.items none_x.1) t.path in
     let spent : Each IsSpent t.kept.0 = each_kept (Gone t.root t.from k more) IsSpent t.kept.0 (λ y g. (g.rooted root, no_parts y.items (gone_none t.root t.from k more y c g).1)) t.kept.2 in
     let one = spent_one t.kept.0 t.before t.after t.x (sym t.kept.1 ∙ t.live_is) spent in
@@ -318,6 +322,9 @@ finish low total at k more live waiting ds forks t c n =
         x = t.x;
         live_is = live_one;
         no_tokens = done.ended ∙ out.end_none;
+        last = none_x.0 ∙ ap closer root;
+        tall = sym out.height_is ∙ done.tall;
+        goal_is = gone_x.rooted root;
         no_forks = t.forks_are ∙ ap (λ (l : List Fork). l ++ t.outer) done.no_forks ∙ out.outer_none;
         choices_are = t.choices_are ∙ ap (λ (l : List ℕ). t.x.choices ++ l) out.cs_none ∙ append-nil t.x.choices;
       });
@@ -434,20 +441,20 @@ unfolding all_go_on
 go_on_first found w a y e = ap (λ (l : List Thread). l ++ all_go_on found a) e
 
 -- the thread of the path goes on
-record GoesOn (low : ℕ → Type 0) (total at : ℕ) (more : List TokenKind) (found : List Finished) (waiting : List (List Thread)) (ds : List ℕ) (forks : List Fork) : Type 0 where
+record GoesOn (low : ℕ → Type 0) (top total at : ℕ) (k : TokenKind) (more : List TokenKind) (found : List Finished) (waiting : List (List Thread)) (ds : List ℕ) (forks : List Fork) : Type 0 where
   those : List Thread
   others : List (List Thread)
   waiting_is : waiting ≡ those ∷ others
-  off : LeftOff low total at more (resumed found [] those) others ds forks
+  off : LeftOff low top total at k more (resumed found [] those) others ds forks
 
-go_on : (low : ℕ → Type 0) (total at : ℕ) (k : TokenKind) (more : List TokenKind) (live : List Thread) (ds : List ℕ) (x : Thread) (before after : List Thread) (inner : List Fork) (told : Bool)
+go_on : (low : ℕ → Type 0) (top total at : ℕ) (k : TokenKind) (more : List TokenKind) (live : List Thread) (ds : List ℕ) (x : Thread) (before after : List Thread) (inner : List Fork) (told : Bool)
     → (waiting : List (List Thread)) (p : Part) (from mid : List TokenKind) (inner_height : ℕ) (root : Bool) (ocs : List ℕ) (oforks : List Fork)
-    → Around low total waiting p from mid inner_height root ocs oforks → root ≡ false
+    → Around low top total waiting p from mid inner_height root ocs oforks → root ≡ false
     → live ≡ before ++ x ∷ after → x.goal ≡ p → Each (IsRead from mid) live → Each (λ (y : Thread). y.goal ≡ p → ⊥) before → Done x more mid inner_height inner
     → at + 1 + length more ≡ total → ds ≡ x.choices ++ ocs → (forks : List Fork) → forks ≡ inner ++ oforks
-    → GoesOn low total at more (map finished live) waiting ds forks
-go_on low total at k more live ds x before after inner told waiting p from mid inner_height root ocs oforks (at_root _ _) r live_is goal_is reads firsts done place ds_is forks forks_is = absurd (cc)
-go_on low total at k more live ds x before after inner told waiting p from mid inner_height root ocs oforks
+    → GoesOn low top total at k more (map finished live) waiting ds forks
+go_on low top total at k more live ds x before after inner told waiting p from mid inner_height root ocs oforks (at_root _) r live_is goal_is reads firsts done place ds_is forks forks_is = absurd (cc)
+go_on low top total at k more live ds x before after inner told waiting p from mid inner_height root ocs oforks
     (in_brace those b a others w _ goal begin _ _ end w_told w_root w_at _ height cs outer forks_after those_is w_waits w_goal dead good shallow path w_place hears around) r live_is goal_is reads firsts done place ds_is forks forks_is =
     let found = map finished live in
     let h = own_height p inner_height in
@@ -524,9 +531,9 @@ outwards : (look : Look) (live those : List Thread) (waiting others : List (List
 unfolding left left_waiting
 outwards look live those waiting others h e = (rw (h, e) refl, rw (h, e) refl)
 
-leave_brace : (low : ℕ → Type 0) (total at : ℕ) (k : TokenKind) (more : List TokenKind) (live : List Thread) (waiting : List (List Thread)) (ds : List ℕ) (forks : List Fork)
-    → AfterToken low total at k more live waiting ds forks → is_kind k kind.RightBrace ≡ true → LeftOff low total at more (left (look_of (k ∷ more)) live waiting) (left_waiting (look_of (k ∷ more)) live waiting) ds forks
-leave_brace low total at k more live waiting ds forks t h =
+leave_brace : (low : ℕ → Type 0) (top total at : ℕ) (k : TokenKind) (more : List TokenKind) (live : List Thread) (waiting : List (List Thread)) (ds : List ℕ) (forks : List Fork)
+    → AfterToken low top total at k more live waiting ds forks → is_kind k kind.RightBrace ≡ true → LeftOff low top total at k more (left (look_of (k ∷ more)) live waiting) (left_waiting (look_of (k ∷ more)) live waiting) ds forks
+leave_brace low top total at k more live waiting ds forks t h =
     let c = brace_closing k h in
     let look = look_of (k ∷ more) in
     let gone_live : Each (Gone t.root t.from k more) (t.before ++ t.x ∷ t.after) = subst (Each (Gone t.root t.from k more)) t.live_is t.gone in
@@ -539,25 +546,25 @@ leave_brace low total at k more live waiting ds forks t h =
     let both = each_both (Dead t.goal more t.end) (λ (y : Thread). y.items ≡ []) t.before t.dead (each_front (λ (y : Thread). y.items ≡ []) t.before (t.x ∷ t.after) none_all) in
     let firsts : Each (λ (y : Thread). y.goal ≡ t.goal → ⊥) t.before = each_kept _ (λ (y : Thread). y.goal ≡ t.goal → ⊥) t.before
     (λ y g e. g.0 e nothing (subst (λ (l : List Part). Derives l more t.end nothing) (ap parts_of_items (sym g.1)) (subst (λ (l : List TokenKind). Derives [] more l nothing) done.ended (derives_none more)))) both in
-    let on = go_on low total at k more live ds t.x t.before t.after t.inner t.told waiting t.goal t.from t.end t.height t.root t.cs t.outer t.around root t.live_is t.goal_is reads firsts done t.place t.choices_are forks t.forks_are in
+    let on = go_on low top total at k more live ds t.x t.before t.after t.inner t.told waiting t.goal t.from t.end t.height t.root t.cs t.outer t.around root t.live_is t.goal_is reads firsts done t.place t.choices_are forks t.forks_are in
     let same = outwards look live on.those waiting on.others closed on.waiting_is in
-    subst (λ (l : List Thread). LeftOff low total at more l (left_waiting look live waiting) ds forks) (sym same.0)
-    (subst (λ (l : List (List Thread)). LeftOff low total at more (resumed (map finished live) [] on.those) l ds forks) (sym same.1) on.off)
+    subst (λ (l : List Thread). LeftOff low top total at k more l (left_waiting look live waiting) ds forks) (sym same.0)
+    (subst (λ (l : List (List Thread)). LeftOff low top total at k more (resumed (map finished live) [] on.those) l ds forks) (sym same.1) on.off)
 
-leave_not : (low : ℕ → Type 0) (total at : ℕ) (k : TokenKind) (more : List TokenKind) (live : List Thread) (waiting : List (List Thread)) (ds : List ℕ) (forks : List Fork)
-    → AfterToken low total at k more live waiting ds forks → is_kind k kind.RightBrace ≡ false → (b : Bool) → is_closing k ≡ b → LeftOff low total at more live waiting ds forks
-leave_not low total at k more live waiting ds forks t h true e = finish low total at k more live waiting ds forks t e h
-leave_not low total at k more live waiting ds forks t h false e = stay low total at k more live waiting ds forks t e
+leave_not : (low : ℕ → Type 0) (top total at : ℕ) (k : TokenKind) (more : List TokenKind) (live : List Thread) (waiting : List (List Thread)) (ds : List ℕ) (forks : List Fork)
+    → AfterToken low top total at k more live waiting ds forks → is_kind k kind.RightBrace ≡ false → (b : Bool) → is_closing k ≡ b → LeftOff low top total at k more live waiting ds forks
+leave_not low top total at k more live waiting ds forks t h true e = finish low top total at k more live waiting ds forks t e h
+leave_not low top total at k more live waiting ds forks t h false e = stay low top total at k more live waiting ds forks t e
 
-leave_by : (low : ℕ → Type 0) (total at : ℕ) (k : TokenKind) (more : List TokenKind) (live : List Thread) (waiting : List (List Thread)) (ds : List ℕ) (forks : List Fork)
-    → AfterToken low total at k more live waiting ds forks → (b : Bool) → is_kind k kind.RightBrace ≡ b → LeftOff low total at more (left (look_of (k ∷ more)) live waiting) (left_waiting (look_of (k ∷ more)) live waiting) ds forks
-leave_by low total at k more live waiting ds forks t true h = leave_brace low total at k more live waiting ds forks t h
-leave_by low total at k more live waiting ds forks t false h =
+leave_by : (low : ℕ → Type 0) (top total at : ℕ) (k : TokenKind) (more : List TokenKind) (live : List Thread) (waiting : List (List Thread)) (ds : List ℕ) (forks : List Fork)
+    → AfterToken low top total at k more live waiting ds forks → (b : Bool) → is_kind k kind.RightBrace ≡ b → LeftOff low top total at k more (left (look_of (k ∷ more)) live waiting) (left_waiting (look_of (k ∷ more)) live waiting) ds forks
+leave_by low top total at k more live waiting ds forks t true h = leave_brace low top total at k more live waiting ds forks t h
+leave_by low top total at k more live waiting ds forks t false h =
     let look = look_of (k ∷ more) in
     let same = in_place look live waiting h in
-    subst (λ (l : List Thread). LeftOff low total at more l (left_waiting look live waiting) ds forks) (sym same.0)
-    (subst (λ (l : List (List Thread)). LeftOff low total at more live l ds forks) (sym same.1) (leave_not low total at k more live waiting ds forks t h (is_closing k) refl))
+    subst (λ (l : List Thread). LeftOff low top total at k more l (left_waiting look live waiting) ds forks) (sym same.0)
+    (subst (λ (l : List (List Thread)). LeftOff low top total at k more live l ds forks) (sym same.1) (leave_not low top total at k more live waiting ds forks t h (is_closing k) refl))
 
-pub leave_path : (low : ℕ → Type 0) (total at : ℕ) (k : TokenKind) (more : List TokenKind) (live : List Thread) (waiting : List (List Thread)) (ds : List ℕ) (forks : List Fork)
-    → AfterToken low total at k more live waiting ds forks → LeftOff low total at more (left (look_of (k ∷ more)) live waiting) (left_waiting (look_of (k ∷ more)) live waiting) ds forks
-leave_path low total at k more live waiting ds forks t = leave_by low total at k more live waiting ds forks t (is_kind k kind.RightBrace) refl
+pub leave_path : (low : ℕ → Type 0) (top total at : ℕ) (k : TokenKind) (more : List TokenKind) (live : List Thread) (waiting : List (List Thread)) (ds : List ℕ) (forks : List Fork)
+    → AfterToken low top total at k more live waiting ds forks → LeftOff low top total at k more (left (look_of (k ∷ more)) live waiting) (left_waiting (look_of (k ∷ more)) live waiting) ds forks
+leave_path low top total at k more live waiting ds forks t = leave_by low top total at k more live waiting ds forks t (is_kind k kind.RightBrace) refl

@@ -65,6 +65,10 @@ pub mod LastingSteps
 pub mod LastingEnds
 pub mod Leaving
 pub mod Marks
+pub mod Spared
 pub mod Following
+pub mod Budgets
+pub mod BudgetSteps
 pub mod Answers
 pub mod WholeAnswers
+pub mod DeepRefusals

@@ -209,14 +209,15 @@ begun_gone more p depth f =
 -- ---- the threads that wait
 
 -- What waits around a brace: for each open brace the threads that wait for its end, and among them the one
--- of a path. The inner part is read from the brace up to `mid`, and has so many nodes one in the other.
-pub data Around (low : ℕ → Type 0) (total : ℕ) : List (List Thread) → Part → List TokenKind → List TokenKind → ℕ → Bool → List ℕ → List Fork → Type 0 where
-  at_root : (from : List TokenKind) (height : ℕ) → Around low total [] (part.Rule rule.Root) from [] height true [] []
+-- of a path. The inner part is read from the brace up to `mid`, and has so many nodes one in the other; in
+-- the end the file has `top`.
+pub data Around (low : ℕ → Type 0) (top total : ℕ) : List (List Thread) → Part → List TokenKind → List TokenKind → ℕ → Bool → List ℕ → List Fork → Type 0 where
+  at_root : (from : List TokenKind) → Around low top total [] (part.Rule rule.Root) from [] top true [] []
   in_brace : (those before after : List Thread) (others : List (List Thread)) (x : Thread) (p goal : Part) (begin from mid end : List TokenKind) (told root : Bool) (at inner_height height : ℕ) (cs : List ℕ) (outer forks : List Fork)
       → those ≡ before ++ x ∷ after → waits_for x ≡ Some p → x.goal ≡ goal
       → Each (Dead goal from end) before → Each (Good root begin from) those
       → (told ≡ true → low at → (received (own_height p inner_height) x).deep ≡ false)
       → Path true low told false (received (own_height p inner_height) x) at mid end height outer
       → at + length mid ≡ total → (told ≡ true) ⊎ (low at → ⊥)
-      → Around low total others goal begin end height root cs forks
-      → Around low total (those ∷ others) p from mid inner_height false (x.choices ++ cs) (outer ++ forks)
+      → Around low top total others goal begin end height root cs forks
+      → Around low top total (those ∷ others) p from mid inner_height false (x.choices ++ cs) (outer ++ forks)

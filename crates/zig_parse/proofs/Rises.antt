@@ -1,6 +1,6 @@
 -- What parts derive in a way that is sure, and how many nodes the first pass counts one in the other there.
 use Rattle.std.proofs.Common.{◌≡◌, ℕ, ◌-◌, ◌≤◌, Bool, true, false, inl, List, [], ◌∷◌, ◌++◌, refl, sym, subst, arith}
-use Rattle.std.specs.Prelude.{max, if◌then◌else◌, ◌&&◌}
+use Rattle.std.specs.Prelude.{max, min, if◌then◌else◌, ◌&&◌}
 use Rattle.zig_tree.specs.declared.token.TokenKind.{TokenKind}
 use Rattle.zig_tree.specs.declared.grammar.Rule.{Rule}
 use Rattle.zig_tree.specs.declared.grammar.Part.{Part}
@@ -67,3 +67,24 @@ rise_low ps behind tokens next end p forks (sure_group_apart g a more _ _ mid _ 
     omega (arith, height_followed inside later, rise_low a.parts [] tokens mid mid inside inner s, rise_low more behind mid next end later outer u)
 rise_low ps behind tokens next end p forks (sure_rule_apart r a more _ _ mid _ _ inside later inner outer _ e s u) =
     omega (arith, height_followed (made r inside) later, rise_made_low r inside (rise_of a.parts [] tokens mid mid inside inner s) (rise_low a.parts [] tokens mid mid inside inner s), rise_low more behind mid next end later outer u)
+
+rise_if_high : (b : Bool) (r : Rule) (p : Pieces) (n : ℕ) → min (height p) 1000 ≤ n → min (height (if b then p else node r p nothing)) 1000 ≤ (if b then n else one_more n)
+rise_if_high true r p n h = h
+rise_if_high false r p n h = omega (arith, h)
+
+pub rise_made_high : (r : Rule) (p : Pieces) (n : ℕ) → min (height p) 1000 ≤ n → min (height (made r p)) 1000 ≤ rise_made r p n
+rise_made_high r p n h = rise_if_high (makes_no_node_alone r && is_one_node p) r p n h
+
+-- nor is it fewer than there are, up to 1000
+pub rise_high : (ps behind : List Part) (tokens next end : List TokenKind) (p : Pieces) (forks : List Fork) (s : Sure ps behind tokens next end p forks) → min (height p) 1000 ≤ rise_of ps behind tokens next end p forks s
+rise_high ps behind tokens next end p forks (sure_none _ _ _) = omega arith
+rise_high ps behind tokens next end p forks (sure_token k more _ after _ _ later _ s) = rise_high more behind after next end later forks s
+rise_high ps behind tokens next end p forks (sure_one_of c k more _ after _ _ later _ h s) = rise_high more behind after next end later forks s
+rise_high ps behind tokens next end p forks (sure_group g a more _ _ mid _ _ inside later choices inner outer _ t s u) =
+    omega (arith, height_followed inside later, rise_high a.parts (more ++ behind) tokens mid end inside inner s, rise_high more behind mid next end later outer u)
+rise_high ps behind tokens next end p forks (sure_rule r a more _ _ mid _ _ inside later choices inner outer _ t s u) =
+    omega (arith, height_followed (made r inside) later, rise_made_high r inside (rise_of a.parts (more ++ behind) tokens mid end inside inner s) (rise_high a.parts (more ++ behind) tokens mid end inside inner s), rise_high more behind mid next end later outer u)
+rise_high ps behind tokens next end p forks (sure_group_apart g a more _ _ mid _ _ inside later inner outer _ e s u) =
+    omega (arith, height_followed inside later, rise_high a.parts [] tokens mid mid inside inner s, rise_high more behind mid next end later outer u)
+rise_high ps behind tokens next end p forks (sure_rule_apart r a more _ _ mid _ _ inside later inner outer _ e s u) =
+    omega (arith, height_followed (made r inside) later, rise_made_high r inside (rise_of a.parts [] tokens mid mid inside inner s) (rise_high a.parts [] tokens mid mid inside inner s), rise_high more behind mid next end later outer u)

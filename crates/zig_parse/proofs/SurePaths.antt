@@ -1,6 +1,6 @@
 -- Where parts derive tokens in a way that is sure, a thread has a path: over what stands in braces, and over a whole sentence.
 use Rattle.std.proofs.Common.{◌≡◌, ℕ, suc, ◌+◌, ◌-◌, ◌<◌, ◌≤◌, Bool, true, false, ◌&&◌, ◌||◌, inl, inr, List, [], ◌∷◌, ◌++◌, map, length, take, Some, None, refl, sym, ◌∙◌, ap, subst, arith, append_assoc, append-nil}
-use Rattle.std.specs.Prelude.{max, if◌then◌else◌}
+use Rattle.std.specs.Prelude.{max, min, if◌then◌else◌}
 use Rattle.std.proofs.lemmas.Bool.{and_parts, eq-eqb}
 use Rattle.zig_tree.specs.declared.token.TokenKind.{TokenKind}
 use Rattle.zig_tree.specs.declared.token.TokenKind.TheVariants.{LeftBrace, RightBrace}
@@ -26,12 +26,12 @@ use Rattle.zig_parse.proofs.Derived.{followed_nothing, followed_twice, open_is_r
 use Rattle.zig_parse.proofs.Shapes.{count, fills, has_piece, is_led}
 use Rattle.zig_parse.proofs.Balance.{reads_some}
 use Rattle.zig_parse.proofs.Spelled.{amount}
-use Rattle.zig_parse.proofs.Story.{group_keeps_led, made_one, one_amount, piece_amount}
+use Rattle.zig_parse.proofs.Story.{group_keeps_led, height_followed, made_one, one_amount, piece_amount}
 use Rattle.zig_parse.specs.Ways.{Fork, Taken, taken_sole, noted, Sure, sure_none, sure_token, sure_one_of, sure_group, sure_rule, sure_group_apart, sure_rule_apart}
 use Rattle.zig_parse.proofs.Paths.{look_of, is_cons, Path, path_ends, path_waits}
 use Rattle.zig_parse.proofs.Depths.{shallow_some, shallow_tree, words, words_followed, words_made, words_read, derived_full, shallow_fewer, Lies, lies_left, lies_made, IsLow, read_low}
 use Rattle.zig_parse.proofs.Calm.{is_free, is_free_group, braces_not_free, lone_row_free, taken_among}
-use Rattle.zig_parse.proofs.Rises.{among_sole, sure_derives, rise_made, rise_made_low, rise_of, rise_low}
+use Rattle.zig_parse.proofs.Rises.{among_sole, sure_derives, rise_made, rise_made_high, rise_made_low, rise_of, rise_high, rise_low}
 use Rattle.zig_parse.proofs.Follows.{closes_none, closes_risen, Stands, Begins, met_frame, met_height, hard_frame, makes, new_frame, open_stands, shut_stands, shut_rise, received_shallow, received_stands}
 use Rattle.zig_parse.proofs.PathSteps.{next_is, waits_some, met_items, Goes, goes_as, none_path, token_ready, token_path, rest_is, group_ready, after_group, first_item, from_closed, group_path, some_words, lone_some, rule_begins, rule_within, inner_lead, rule_ready, made_lies, after_rule, rule_path, Ready}
 
@@ -421,7 +421,7 @@ root_path low falls tokens a inside inner taken lies s =
 
 whole_at : (low : ℕ → Type 0) (falls : (n m : ℕ) → n ≤ m → low m → low n) (tokens mid : List TokenKind) (a : Alternative) (inside : Pieces) (choices : List Bool) (inner outer : List Fork) → choices ≡ [] → mid ≡ [] → outer ≡ []
     → Taken [] tokens [] (open_at tokens (rule_rows rule.Root)) a choices → Lies low 0 0 (made rule.Root inside) → Sure a.parts [] tokens mid [] inside inner
-    → (height : ℕ) × Path true low true false (begun (look_of tokens) (part.Rule rule.Root) 0) 0 tokens [] height (noted tokens choices ++ (inner ++ outer))
+    → (tall : ℕ) × Path true low true false (begun (look_of tokens) (part.Rule rule.Root) 0) 0 tokens [] tall (noted tokens choices ++ (inner ++ outer)) × (min (height (made rule.Root inside)) 1000 ≤ tall)
 whole_at low falls tokens mid a inside choices inner outer c m o taken lies s =
     let t2 = subst (Taken [] tokens [] (open_at tokens (rule_rows rule.Root)) a) c taken in
     let s2 = subst (λ (l : List TokenKind). Sure a.parts [] tokens l [] inside inner) m s in (
@@ -430,19 +430,21 @@ whole_at low falls tokens mid a inside choices inner outer c m o taken lies s =
           (subst (λ (l : List Fork). Path true low true false (begun (look_of tokens) (part.Rule rule.Root) 0) 0 tokens [] (rise_made rule.Root inside (rise_of a.parts [] tokens [] [] inside inner s2)) (inner ++ l)) (sym o)
           (subst (λ (l : List Fork). Path true low true false (begun (look_of tokens) (part.Rule rule.Root) 0) 0 tokens [] (rise_made rule.Root inside (rise_of a.parts [] tokens [] [] inside inner s2)) l) (sym (append-nil inner))
           (root_path low falls tokens a inside inner t2 lies s2))),
+      rise_made_high rule.Root inside (rise_of a.parts [] tokens [] [] inside inner s2) (rise_high a.parts [] tokens [] [] inside inner s2),
     )
 
 whole_path : (tokens mid : List TokenKind) (a : Alternative) (inside later : Pieces) (choices : List Bool) (inner outer : List Fork) → Taken [] tokens [] (open_at tokens (rule_rows rule.Root)) a choices → Sure a.parts [] tokens mid [] inside inner
     → (mid ≡ []) × (later ≡ nothing) × (outer ≡ [])
-    → (height : ℕ) × Path true (low_in (followed (made rule.Root inside) later)) true false (begun (look_of tokens) (part.Rule rule.Root) 0) 0 tokens [] height (noted tokens choices ++ (inner ++ outer))
+    → (tall : ℕ) × Path true (low_in (followed (made rule.Root inside) later)) true false (begun (look_of tokens) (part.Rule rule.Root) 0) 0 tokens [] tall (noted tokens choices ++ (inner ++ outer)) × (min (height (followed (made rule.Root inside) later)) 1000 ≤ tall)
 whole_path tokens mid a inside later choices inner outer taken s h =
     let tree = followed (made rule.Root inside) later in
-    whole_at (low_in tree) (low_falls tree) tokens mid a inside choices inner outer (root_choices tokens a choices taken) h.0 h.2 taken (lies_left (low_in tree) 0 0 (made rule.Root inside) later (low_lies tree)) s
+    let path = whole_at (low_in tree) (low_falls tree) tokens mid a inside choices inner outer (root_choices tokens a choices taken) h.0 h.2 taken (lies_left (low_in tree) 0 0 (made rule.Root inside) later (low_lies tree)) s in
+    (path.0, path.1, omega (arith, path.2, height_followed (made rule.Root inside) later, ap height h.1))
 
 -- The thread of a tree that is sure has a path, and is not marked as deep while the tokens that it has read
--- lie no deeper than 200.
+-- lie no deeper than 200. It has as many nodes one in the other in the end as the tree, up to 1000.
 pub sure_path : (tokens : List TokenKind) (tree : Pieces) (forks : List Fork) → Sure (part.Rule rule.Root ∷ []) [] tokens [] [] tree forks
-    → (height : ℕ) × Path true (low_in tree) true false (begun (look_of tokens) (part.Rule rule.Root) 0) 0 tokens [] height forks
+    → (tall : ℕ) × Path true (low_in tree) true false (begun (look_of tokens) (part.Rule rule.Root) 0) 0 tokens [] tall forks × (min (height tree) 1000 ≤ tall)
 unfolding is_braced
 sure_path tokens tree forks (sure_rule _ a _ _ _ mid _ _ inside later choices inner outer free taken s s2) = whole_path tokens mid a inside later choices inner outer taken s (none_sure [] mid [] [] later outer s2)
 sure_path tokens tree forks (sure_rule_apart _ a _ _ _ mid _ _ inside later inner outer braced e s s2) = absurd (cc)

@@ -13,7 +13,7 @@ use Rattle.zig_parse.proofs.Settling.{Dead, chosen_with, settle_path, settled_de
 use Rattle.zig_parse.proofs.Living.{Around, Good, Gone, Readable, settled_good}
 
 -- between two tokens: the path's thread is live, and those before it lead nowhere
-pub record Tracked (low : ℕ → Type 0) (total at : ℕ) (tokens : List TokenKind) (live : List Thread) (waiting : List (List Thread)) (ds : List ℕ) (forks : List Fork) : Type 0 where
+pub record Tracked (low : ℕ → Type 0) (top total at : ℕ) (tokens : List TokenKind) (live : List Thread) (waiting : List (List Thread)) (ds : List ℕ) (forks : List Fork) : Type 0 where
   pub root : Bool
   pub goal : Part
   pub from : List TokenKind
@@ -33,13 +33,13 @@ pub record Tracked (low : ℕ → Type 0) (total at : ℕ) (tokens : List TokenK
   pub good : Each (Good root from tokens) live
   pub dead : Each (Dead goal tokens end) before
   pub hears : (told ≡ true) ⊎ (low at → ⊥)
-  pub around : Around low total waiting goal from end height root cs outer
+  pub around : Around low top total waiting goal from end height root cs outer
   pub choices_are : ds ≡ x.choices ++ cs
   pub forks_are : forks ≡ inner ++ outer
   pub place : at + length tokens ≡ total
 
 -- where each thread has a token in front
-pub record AtToken (low : ℕ → Type 0) (total at : ℕ) (k : TokenKind) (more : List TokenKind) (ready : List Thread) (waiting : List (List Thread)) (ds : List ℕ) (forks : List Fork) : Type 0 where
+pub record AtToken (low : ℕ → Type 0) (top total at : ℕ) (k : TokenKind) (more : List TokenKind) (ready : List Thread) (waiting : List (List Thread)) (ds : List ℕ) (forks : List Fork) : Type 0 where
   pub root : Bool
   pub goal : Part
   pub from : List TokenKind
@@ -59,7 +59,7 @@ pub record AtToken (low : ℕ → Type 0) (total at : ℕ) (k : TokenKind) (more
   pub gone : Each (λ (y : Thread). Gone root from k more (after_read y)) ready
   pub dead : Each (λ (y : Thread). Dead goal more end (after_read y)) before
   pub hears : (told ≡ true) ⊎ (low (at + 1) → ⊥)
-  pub around : Around low total waiting goal from end height root cs outer
+  pub around : Around low top total waiting goal from end height root cs outer
   pub choices_are : ds ≡ x.choices ++ cs
   pub forks_are : forks ≡ inner ++ outer
   pub place : at + 1 + length more ≡ total
@@ -86,9 +86,9 @@ few_any : (calm : Bool) (news : List Bool) → (news ≡ []) ⊎ ((calm ≡ fals
 few_any calm news (inl e) = inl e
 few_any calm news (inr e) = inr e.1
 
-pub readied : (low : ℕ → Type 0) (total at : ℕ) (tokens : List TokenKind) (live : List Thread) (waiting : List (List Thread)) (ds : List ℕ) (forks : List Fork) → (t : Tracked low total at tokens live waiting ds forks)
+pub readied : (low : ℕ → Type 0) (top total at : ℕ) (tokens : List TokenKind) (live : List Thread) (waiting : List (List Thread)) (ds : List ℕ) (forks : List Fork) → (t : Tracked low top total at tokens live waiting ds forks)
     → Readied low at tokens (settled_all (look_of tokens) at live) t.root t.goal t.from t.end t.height t.told t.x.choices t.inner
-readied low total at tokens live waiting ds forks t =
+readied low top total at tokens live waiting ds forks t =
     let look = look_of tokens in
     let s = settle_path low t.told false t.x at tokens t.end t.height t.inner t.shorter t.path t.x.choices in
     let front = settled_all look at t.before in

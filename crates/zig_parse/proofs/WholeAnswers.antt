@@ -115,7 +115,7 @@ all_taken : (tokens : List Token) → take (length tokens) (kinds_of tokens) ≡
 all_taken [] = refl
 all_taken (t ∷ ts) = ap (λ (l : List TokenKind). t.kind ∷ l) (all_taken ts)
 
-survey_sentence : (tokens : List Token) (marks : List Bool) → survey_of tokens ≡ Ok marks → IsEnded tokens → NotWithout ((tree : Pieces) × Sentence (kinds_of tokens) tree)
+pub survey_sentence : (tokens : List Token) (marks : List Bool) → survey_of tokens ≡ Ok marks → IsEnded tokens → NotWithout ((tree : Pieces) × Sentence (kinds_of tokens) tree)
 survey_sentence tokens marks h ended none =
     let f = found_where (Left tokens) tokens (survey_of tokens) (Ok marks) h (first_found tokens) in
     let l = f.1 in

@@ -1,17 +1,14 @@
 -- What holds of the grammar, and of the function on lists that the parser computes.
-use Rattle.std.specs.Prelude.{◌≡◌, ◌+◌, ◌<◌, ◌≤◌, ◌^◌, ℕ, false, List, [], ◌∷◌, length, Ok}
+use Rattle.std.specs.Prelude.{◌≡◌, ◌+◌, ◌<◌, ◌≤◌, ◌^◌, ℕ, List, [], ◌∷◌, length, Ok}
 use Rattle.zig_tree.specs.declared.token.TokenKind.{TokenKind}
-use Rattle.zig_tree.specs.declared.token.TokenKind.TheVariants.{Identifier}
 use Rattle.zig_tree.specs.declared.token.Token.{Token}
 use Rattle.zig_tree.specs.declared.grammar.Rule.TheVariants as rule
 use Rattle.zig_tree.specs.declared.grammar.Part.TheVariants as part
 use Rattle.zig_tree.specs.declared.tree.Node.{Node}
-use Rattle.zig_tree.specs.Kinds.{is_kind}
 use Rattle.zig_tree.specs.GrammarSentences.{Pieces, Derives, Sentence, Accepted, IsRefused, IsUnexpected, IsTooDeep}
 use Rattle.zig_parse.specs.declared.choice.Look.{Look}
 use Rattle.zig_parse.specs.declared.thread.Thread.{Thread}
 use Rattle.zig_parse.specs.declared.state.State.{State}
-use Rattle.zig_parse.specs.declared.survey.Verdict.TheVariants.{Unexpected}
 use Rattle.zig_parse.specs.Growth.{parse_of}
 use Rattle.zig_parse.specs.Moves.{moves_for_all, settled, settled_all}
 use Rattle.zig_parse.specs.Surveys.{next_verdict}
@@ -50,10 +47,6 @@ ChosenIsSure = (tokens : List TokenKind) (tree : Pieces) → Sentence tokens tre
 abbrev pub MovesSuffice : Type 0
 MovesSuffice = (n : ℕ) (look : Look) (at : ℕ) (ts : List Thread) → moves_for_all ts ≤ n → settled n look at ts ≡ settled_all look at ts
 
--- what stands behind a token that is no identifier counts for nothing where it is read or refused
+-- what stands behind a token counts for nothing where it is read or refused
 abbrev pub LastLook : Type 0
-LastLook = (a b : Look) (at : ℕ) (s : State) → a.kind ≡ b.kind → is_kind a.kind Identifier ≡ false → next_verdict a at s ≡ next_verdict b at s
-
--- what stands behind a token counts for nothing where it is unexpected
-abbrev pub LastUnexpected : Type 0
-LastUnexpected = (a b : Look) (at : ℕ) (s : State) → a.kind ≡ b.kind → next_verdict a at s ≡ Unexpected → next_verdict b at s ≡ Unexpected
+LastLook = (a b : Look) (at : ℕ) (s : State) → a.kind ≡ b.kind → next_verdict a at s ≡ next_verdict b at s

@@ -1,5 +1,5 @@
 -- The first pass over tokens: every way to read them, until one way is left or none.
-use Rattle.std.specs.Prelude.{ℕ, ◌-◌, Bool, true, false, ◌&&◌, ◌||◌, nat_eq, min, List, [], ◌∷◌, ◌++◌, length, slice_set, Option, Some, None, is_some, if◌then◌else◌}
+use Rattle.std.specs.Prelude.{ℕ, ◌-◌, Bool, true, false, not, ◌&&◌, ◌||◌, nat_eq, min, List, [], ◌∷◌, ◌++◌, length, slice_set, Option, Some, None, is_some, if◌then◌else◌}
 use Rattle.std.specs.Borrow.{Bor}
 use Rattle.zig_tree.specs.declared.token.TokenKind.TheVariants.{RightBrace}
 use Rattle.zig_tree.specs.declared.grammar.Rule.TheVariants as rule
@@ -172,7 +172,12 @@ marked_alone [] marks = marks
 marked_alone (t ∷ []) marks = marked t.choices marks
 marked_alone (t ∷ u ∷ ts) marks = marks
 
--- what became of the tokens so far
-abbrev pub verdict_of : List Thread → Verdict
-verdict_of [] = verdict.Unexpected
-verdict_of (t ∷ ts) = if all_deep (t ∷ ts) then verdict.TooDeep else verdict.Fine
+-- whether one of some threads reads the token within the limit of depth
+unfoldable pub any_shallow : List Thread → Bool
+any_shallow [] = false
+any_shallow (t ∷ ts) = not (after_read t).deep || any_shallow ts
+
+-- what became of the tokens so far, where one is spared or not that all threads which are left count as too deep
+abbrev pub verdict_of : Bool → List Thread → Verdict
+verdict_of spared [] = verdict.Unexpected
+verdict_of spared (t ∷ ts) = if all_deep (t ∷ ts) && not spared then verdict.TooDeep else verdict.Fine

@@ -1,8 +1,9 @@
 -- The first pass, token by token.
-use Rattle.std.specs.Prelude.{◌≡◌, ℕ, zero, suc, ◌+◌, Bool, List, [], ◌∷◌, map, slice_get, Option, Some, None, Result, Ok, Err, if◌then◌else◌}
+use Rattle.std.specs.Prelude.{◌≡◌, ℕ, zero, suc, ◌+◌, Bool, ◌&&◌, List, [], ◌∷◌, map, slice_get, Option, Some, None, Result, Ok, Err, if◌then◌else◌}
 use Rattle.zig_tree.specs.declared.token.Token.{Token}
 use Rattle.zig_tree.specs.declared.token.TokenKind.{TokenKind}
-use Rattle.zig_tree.specs.declared.token.TokenKind.TheVariants.{End}
+use Rattle.zig_tree.specs.declared.token.TokenKind.TheVariants.{End, Identifier}
+use Rattle.zig_tree.specs.Kinds.{is_kind}
 use Rattle.zig_tree.specs.declared.grammar.Rule.TheVariants.{Root}
 use Rattle.zig_tree.specs.declared.grammar.Part.TheVariants as part
 use Rattle.zig_parse.specs.declared.choice.Look.{Look}
@@ -14,7 +15,7 @@ use Rattle.zig_parse.specs.declared.survey.Verdict.TheVariants as verdict
 use Rattle.zig_parse.specs.declared.state.State.{State}
 use Rattle.zig_parse.specs.Stack.{rest}
 use Rattle.zig_parse.specs.Moves.{settled_all}
-use Rattle.zig_parse.specs.Passes.{after_token, alone, any_waits, begun, finished, inside, is_closed, marked_alone, resumed_top, those_waiting, verdict_of}
+use Rattle.zig_parse.specs.Passes.{after_token, alone, any_shallow, any_waits, begun, finished, inside, is_closed, marked_alone, resumed_top, those_waiting, verdict_of}
 
 -- the kind of a token, or that of the file's end
 abbrev pub kind_of : Option Token → TokenKind
@@ -53,8 +54,13 @@ next_live look at s = left look (read_live look at s) (read_waiting look at s)
 unfoldable pub next_state : Look → ℕ → State → State
 next_state look at s = record { waiting = left_waiting look (read_live look at s) (read_waiting look at s); live = alone (next_live look at s) }
 
+-- An identifier is no deeper than the limit where one of the threads that read it reads it so, also one that goes
+-- on as another does: what stands behind the identifier tells which do.
+unfoldable pub is_spared : Look → ℕ → State → Bool
+is_spared look at s = is_kind look.kind Identifier && any_shallow (entered look (settled_all look at s.live))
+
 unfoldable pub next_verdict : Look → ℕ → State → Verdict
-next_verdict look at s = verdict_of (next_live look at s)
+next_verdict look at s = verdict_of (is_spared look at s) (next_live look at s)
 
 unfoldable pub next_marks : Look → ℕ → State → List Bool → List Bool
 next_marks look at s marks = marked_alone (next_live look at s) marks

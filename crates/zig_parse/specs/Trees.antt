@@ -9,7 +9,7 @@ use Rattle.zig_tree.specs.declared.grammar.Part.TheVariants as part
 use Rattle.zig_tree.specs.declared.tree.Kid.{Kid}
 use Rattle.zig_tree.specs.declared.tree.Kid.TheVariants as kid
 use Rattle.zig_tree.specs.declared.tree.Node.{Node}
-use Rattle.zig_tree.specs.GrammarSentences.{Pieces, nothing, word, node, Derives, Sentence, Accepted, Begins, height}
+use Rattle.zig_tree.specs.GrammarSentences.{Pieces, nothing, word, node, Derives, Sentence, Accepted, Begins, BeginsShallow, height}
 use Rattle.zig_parse.specs.declared.fault.SyntaxFault.{SyntaxFault}
 use Rattle.zig_parse.specs.declared.fault.SyntaxFault.TheVariants.{Unexpected, TooDeep, OutOfMemory}
 use Rattle.zig_parse.specs.Nodes.{joined, token_span}
@@ -72,3 +72,10 @@ abbrev pub IsRefusedFor : List Token → SyntaxFault → Type 0
 IsRefusedFor tokens (Unexpected kind at) = IsNotAccepted tokens × (IsEnded tokens → NotWithout (Begins (take at (kinds_of tokens))) × (Begins (take (at + 1) (kinds_of tokens)) → ⊥))
 IsRefusedFor tokens (TooDeep at) = IsNotAccepted tokens × (IsEnded tokens → NotWithout (Begins (take (at + 1) (kinds_of tokens))))
 IsRefusedFor tokens OutOfMemory = Unit {0}
+
+-- no sentence begins with the tokens up to the refused one that has each of them directly in a node no deeper
+-- than 200
+abbrev pub NoneShallow : List Token → SyntaxFault → Type 0
+NoneShallow tokens (Unexpected kind at) = IsEnded tokens → BeginsShallow (take (at + 1) (kinds_of tokens)) → ⊥
+NoneShallow tokens (TooDeep at) = IsEnded tokens → BeginsShallow (take (at + 1) (kinds_of tokens)) → ⊥
+NoneShallow tokens OutOfMemory = Unit {0}

@@ -1,5 +1,5 @@
 // Laws of the grammar and of the function on lists that the parser computes. They have no code.
-ghost use Rattle.zig_parse.specs.Laws.{ChosenIsSure, DerivedIsSentence, LastLook, LastUnexpected, MovesSuffice, NeverBoth, OneReason, OneRefusal, OneTree, ReadsTree};
+ghost use Rattle.zig_parse.specs.Laws.{ChosenIsSure, DerivedIsSentence, LastLook, MovesSuffice, NeverBoth, OneReason, OneRefusal, OneTree, ReadsTree};
 
 /// A list of tokens has at most one tree.
 pub fn one_tree()
@@ -34,8 +34,7 @@ pub fn chosen_is_sure()
     ensures { ChosenIsSure }
 {}
 
-/// What stands behind a token that is no identifier counts for no refusal of it.
+/// What stands behind a token counts for no refusal of it.
 pub fn last_look()
-    ensures verdict { LastLook }
-    ensures unexpected { LastUnexpected }
+    ensures { LastLook }
 {}

@@ -2,7 +2,7 @@
 ghost use Rattle.std.specs.Prelude.{◌≡◌, ◌+◌, IfErr, IfOk, length};
 ghost use Rattle.zig_parse.specs.Growth.{parse_of};
 ghost use Rattle.zig_parse.specs.Surveys.{Gives};
-ghost use Rattle.zig_parse.specs.Trees.{HoldsAll, IsChosen, IsRefusedFor, IsSentence, NamesToken, kinds_of};
+ghost use Rattle.zig_parse.specs.Trees.{HoldsAll, IsChosen, IsRefusedFor, IsSentence, NamesToken, NoneShallow, kinds_of};
 
 use crate::fault::SyntaxFault;
 use crate::grow::grow;
@@ -27,6 +27,8 @@ pub fn parse(alloc: Global, tokens: &[Token]) -> Result<Tree, SyntaxFault>
     ensures refused { IfErr result (NamesToken tokens.now) }
     // No sentence whose tree is within the depth is refused; and none, however deep, begins with an unexpected token.
     ensures reason { IfErr result (IsRefusedFor tokens.now) }
+    // With a refused token no sentence begins that has each token up to it directly in a node within the depth.
+    ensures shallow { IfErr result (NoneShallow tokens.now) }
 {
     let Ok(count) = u32::try_from(tokens.len()) else {
         return Err(SyntaxFault::OutOfMemory);

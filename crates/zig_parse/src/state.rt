@@ -13,7 +13,7 @@ use crate::survey::{
 };
 use crate::thread::Thread;
 use std::alloc::{AllocError, Global};
-use zig_tree::{Part, Rule, Token, TokenKind};
+use zig_tree::{Part, Rule, Token, TokenKind, same_kind};
 
 /// What is known after some tokens.
 #[derive(Debug, Drop)]
@@ -87,7 +87,7 @@ fn leave(
 }
 
 /// Reads a token.
-#[tactic(auto, unfolding(crate::specs::Surveys::read_live, crate::specs::Surveys::read_waiting, crate::specs::Surveys::next_live, crate::specs::Surveys::next_state, crate::specs::Surveys::next_verdict, crate::specs::Surveys::next_marks))]
+#[tactic(auto, unfolding(crate::specs::Surveys::read_live, crate::specs::Surveys::read_waiting, crate::specs::Surveys::next_live, crate::specs::Surveys::next_state, crate::specs::Surveys::is_spared, crate::specs::Surveys::next_verdict, crate::specs::Surveys::next_marks))]
 fn read(
     alloc: Global,
     state: State,
@@ -102,9 +102,11 @@ fn read(
     let State { mut waiting, live } = state;
     let ready = settle(alloc, live, look, at)?;
     let ready = enter(alloc, ready, &mut waiting, look)?;
-    let live = after_token(alloc, ready)?;
+    let (live, shallow) = after_token(alloc, ready)?;
     let live = leave(alloc, live, &mut waiting, look)?;
-    let verdict = judge(live.as_slice());
+    // What stands behind an identifier tells which of the threads that read it go on in one way.
+    let spared = same_kind(look.kind, TokenKind::Identifier) && shallow;
+    let verdict = judge(live.as_slice(), spared);
     let live = settle_choices(alloc, Stack::of(live), chosen)?;
     Ok((State { waiting, live }, verdict))
 }

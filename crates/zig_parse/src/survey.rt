@@ -215,17 +215,26 @@ fn keep(kept: &mut Vec<Thread>, thread: Thread) -> Result<(), AllocError>
     Ok(())
 }
 
-/// The threads after the token. Of those that go on in the same way the first one stays.
-#[tactic(auto, unfolding(crate::specs::Passes::after_token))]
-pub fn after_token(alloc: Global, mut ready: Stack<Thread>) -> Result<Vec<Thread>, AllocError>
-    ensures { IfOk result (λ v. v.items ≡ spec.after_token [] ready) }
+/// The threads after the token, and whether one reads it within the limit of depth. Of those that go
+/// on in the same way the first one stays.
+#[tactic(auto, unfolding(crate::specs::Passes::after_token, crate::specs::Passes::any_shallow))]
+pub fn after_token(
+    alloc: Global,
+    mut ready: Stack<Thread>,
+) -> Result<(Vec<Thread>, bool), AllocError>
+    ensures kept { IfOk result (λ r. r.0.items ≡ spec.after_token [] ready) }
+    ensures shallow { IfOk result (λ r. r.1 ≡ spec.any_shallow ready) }
 {
     let mut kept = Vec::new(alloc);
+    let mut shallow = false;
     while let Some(mut thread) = ready.pop() {
         thread.read();
+        if !thread.deep {
+            shallow = true;
+        }
         keep(&mut kept, thread)?;
     }
-    Ok(kept)
+    Ok((kept, shallow))
 }
 
 /// Marks the tokens at which a thread took the second alternative.
@@ -340,13 +349,13 @@ fn all_deep(live: &[Thread]) -> bool
     true
 }
 
-/// What became of the tokens so far.
-pub fn judge(live: &[Thread]) -> Verdict
-    ensures { result ≡ spec.verdict_of live.now }
+/// What became of the tokens so far, where one is spared or not that all threads count as too deep.
+pub fn judge(live: &[Thread], spared: bool) -> Verdict
+    ensures { result ≡ spec.verdict_of spared live.now }
 {
     if live.is_empty() {
         Verdict::Unexpected
-    } else if all_deep(live) {
+    } else if all_deep(live) && !spared {
         Verdict::TooDeep
     } else {
         Verdict::Fine

@@ -5,13 +5,14 @@ use Rattle.zig_tree.specs.declared.tree.Tree.{Tree}
 use Rattle.zig_parse.specs.declared.fault.SyntaxFault.{SyntaxFault}
 use Rattle.zig_parse.specs.Growth.{grown_from}
 use Rattle.zig_parse.specs.Surveys.{Fails, Gives}
-use Rattle.zig_parse.specs.Trees.{HoldsAll, IsChosen, IsRefusedFor, IsSentence, NamesToken, kinds_of}
+use Rattle.zig_parse.specs.Trees.{HoldsAll, IsChosen, IsRefusedFor, IsSentence, NamesToken, NoneShallow, kinds_of}
 use Rattle.zig_parse.proofs.Sound.{grown_sound}
 use Rattle.zig_parse.proofs.Preferred.{sentence_some}
 use Rattle.zig_parse.proofs.Names.{grow_fails, survey_fails}
 use Rattle.zig_parse.specs.declared.fault.SyntaxFault.TheVariants.{Unexpected, TooDeep, OutOfMemory}
 use Rattle.zig_parse.proofs.Answers.{parsed_chosen, survey_of, survey_refused}
 use Rattle.zig_parse.proofs.WholeAnswers.{grown_refused}
+use Rattle.zig_parse.proofs.DeepRefusals.{grown_shallow, survey_shallow}
 use Rattle.zig_parse.proofs.parser.parse.Goals as goal
 
 call_sound : (tokens : List Token) (marks : List Bool) (r : Result Tree SyntaxFault) → length tokens < 2 ^ 32 → Gives (λ t. t.nodes) r (grown_from tokens marks) → IfOk r (λ t. t.root + 1 ≡ length t.nodes)
@@ -74,3 +75,23 @@ pub returns-in_err-chosen-clause-reason : goal.returns-in_err-chosen-clause-reas
 returns-in_err-chosen-clause-reason c =
     let same : c.from_residual.result ≡ Err c.in_err-chosen.field-0.0 = search rules in
     subst (λ (r : Result Tree SyntaxFault). IfErr r (IsRefusedFor c.args.tokens.now)) (sym same) (survey_reason c.args.tokens.now c.in_err-chosen.field-0.0 (omega (arith, c.in-Ok.ensures)) c.in_err-chosen.ensures)
+
+call_shallow : (tokens : List Token) (marks : List Bool) (r : Result Tree SyntaxFault) → length tokens < 2 ^ 32 → survey_of tokens ≡ Ok marks → Gives (λ t. t.nodes) r (grown_from tokens marks) → IfErr r (NoneShallow tokens)
+call_shallow tokens marks (Ok t) fits found h = tt
+call_shallow tokens marks (Err (Unexpected k at)) fits found h = grown_shallow tokens marks (Unexpected k at) fits found h
+call_shallow tokens marks (Err (TooDeep at)) fits found h = grown_shallow tokens marks (TooDeep at) fits found h
+call_shallow tokens marks (Err OutOfMemory) fits found h = tt
+
+shallow_reason : (tokens : List Token) (e : SyntaxFault) → length tokens < 2 ^ 32 → Fails e (survey_of tokens) → NoneShallow tokens e
+shallow_reason tokens (Unexpected k at) fits h = survey_shallow tokens (Unexpected k at) fits h
+shallow_reason tokens (TooDeep at) fits h = survey_shallow tokens (TooDeep at) fits h
+shallow_reason tokens OutOfMemory fits h = tt
+
+pub returns-clause-shallow : goal.returns-clause-shallow
+returns-clause-shallow c =
+    call_shallow c.args.tokens.now c.as_slice.result.now c.grow.result (omega (arith, c.in-Ok.ensures)) (found_marks c.args.tokens.now c.as_slice.result.now c.in_ok-chosen.chosen.items c.in_ok-chosen.ensures c.as_slice.ensures.value) c.grow.ensures.nodes
+
+pub returns-in_err-chosen-clause-shallow : goal.returns-in_err-chosen-clause-shallow
+returns-in_err-chosen-clause-shallow c =
+    let same : c.from_residual.result ≡ Err c.in_err-chosen.field-0.0 = search rules in
+    subst (λ (r : Result Tree SyntaxFault). IfErr r (NoneShallow c.args.tokens.now)) (sym same) (shallow_reason c.args.tokens.now c.in_err-chosen.field-0.0 (omega (arith, c.in-Ok.ensures)) c.in_err-chosen.ensures)
