@@ -47,7 +47,7 @@ pub fn hex_value(byte: u8) -> Option<u8>
 
 /// The hexadecimal digits at the front.
 #[derive(Clone, Copy, Debug)]
-pub struct Digits {
+pub struct DigitRun {
     /// The number that they make, or 0x110000 where it is larger.
     pub number: u32,
     /// How many they are.
@@ -55,7 +55,7 @@ pub struct Digits {
 }
 
 /// The hexadecimal digits at the front.
-pub fn digits_at_front(bytes: &[u8]) -> Digits
+pub fn digits_at_front(bytes: &[u8]) -> DigitRun
     ensures number { result.number ≡ min (number_at_front 0 bytes.now) 0x110000 }
     ensures count { result.count ≡ digit_count bytes.now }
     ensures within { result.count ≤ length bytes.now }
@@ -64,10 +64,10 @@ pub fn digits_at_front(bytes: &[u8]) -> Digits
     for (i, byte) in bytes.iter().enumerate() {
         match hex_value(*byte) {
             Some(digit) => number = (16 * number + digit as u32).min(0x110000),
-            None => return Digits { number, count: i },
+            None => return DigitRun { number, count: i },
         }
     }
-    Digits {
+    DigitRun {
         number,
         count: bytes.len(),
     }

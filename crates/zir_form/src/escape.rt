@@ -7,7 +7,7 @@ use std::alloc::{AllocError, Global};
 
 /// What a letter stands for behind a backslash.
 #[tactic(auto, unfolding(crate::specs::Escapes::letter_value))]
-fn letter_value(byte: u8) -> u8
+pub fn letter_value(byte: u8) -> u8
     ensures { result ≡ letter_value byte }
 {
     if byte == b'n' {

@@ -1,20 +1,40 @@
-//! Names of Zig's text, and those that are there before any declaration.
+//! The core tree of a file's text, and the names of that text.
 //!
-//! The model: a name is the bytes that an identifier stands for, escapes resolved. `Names` is the
-//! list of each token's first token with its name, so that later layers compare numbers.
-//! Public calls: `token_bytes`, `name_of`, `Names::of`, `primitive_of`. The crate stands on `zw_base` and `zig_tree`.
+//! The model: a name is the bytes that an identifier stands for, escapes resolved; `Names` is the list of
+//! each token's first token with its name, so that later layers compare numbers. The core tree
+//! (`specs/Core.antt`, one form a variant of `Form`) is kept as lines: a line is a form over earlier lines,
+//! and `core_at` is the tree that it stands for, so that what stands at many places is stored once. A `Zir`
+//! has the lines of a file and tables of its declarations, containers and blocks; `file_in` is the file
+//! that it stands for (`specs/File.antt`), and its answers are those of the file
+//! (`parts_are_those_of_the_file`).
+//! Public calls: `token_bytes`, `name_of`, `Names::of`, `primitive_of`; `Lines::put`, `Zir::of`, `Zir::part`,
+//! `Zir::name_in`, `Zir::container_in`; `quoted_value` and the
+//! calls on bytes serve the crate that reads literals. The crate stands on `zw_base` and `zig_tree`.
 #![tactic(auto)]
 
+mod build;
 mod bytes;
 mod escape;
+mod form;
 mod laws;
+mod lines;
 mod name;
 mod names;
+mod operator;
 mod primitive;
+mod table;
 #[cfg(test)]
 mod tests;
+mod zir;
 
-pub use laws::first_tokens_tell_names;
+pub use bytes::{DigitRun, behind, byte_at, digits_at_front, is_within};
+pub use escape::{letter_value, quoted_value};
+pub use form::Form;
+pub use laws::{first_tokens_tell_names, lines_are_over_earlier_ones, parts_are_those_of_the_file};
+pub use lines::Lines;
 pub use name::{name_of, token_bytes};
 pub use names::Names;
+pub use operator::{BinaryOperator, Builtin, UnaryOperator};
 pub use primitive::{Primitive, primitive_of};
+pub use table::{BlockRow, ContainerRow, DeclarationRow, ImportRow};
+pub use zir::{ContainerRef, NameRef, Part, PartRef, Zir};

@@ -65,7 +65,7 @@ impl Names {
 
 /// The place of a name.
 #[tactic(auto, unfolding(crate::specs::Places::place_in))]
-fn place_of(places: &BTreeMap<Vec<u8>, u32>, name: &[u8]) -> Option<u32>
+pub fn place_of(places: &BTreeMap<Vec<u8>, u32>, name: &[u8]) -> Option<u32>
     ensures { result ≡ place_in places.now name.now }
 {
     places.get(name).copied()

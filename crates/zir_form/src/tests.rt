@@ -1,8 +1,11 @@
-// Names as they are written in several ways, and primitives.
-use crate::{Names, Primitive, name_of, primitive_of};
+// Names as they are written in several ways, primitives, and what a Zir answers.
+use crate::{
+    ContainerRef, ContainerRow, DeclarationRow, Form, Lines, Names, Part, Primitive, Zir, name_of,
+    primitive_of,
+};
 use std::test::Fail;
 use zig_tree::{Token, TokenKind};
-use zw_base::Span;
+use zw_base::{Bytes, Seq, Span};
 
 fn token(kind: TokenKind, start: u32, end: u32) -> Token {
     Token {
@@ -59,5 +62,81 @@ fn primitives(rt: HostRuntime) -> Result<(), Fail> {
     assert_eq!(rt; primitive_of(b"usize"), Some(Primitive::Usize));
     assert_eq!(rt; primitive_of(b"comptime_int"), Some(Primitive::ComptimeInt));
     assert_eq!(rt; primitive_of(b"f32"), None);
+    Ok(())
+}
+
+fn declaration(rt: &HostRuntime, container: u32, token: u32) -> Result<DeclarationRow, Fail> {
+    Ok(DeclarationRow {
+        container,
+        token,
+        name: Bytes::of(Vec::from_slice(rt.alloc(), b"a")?),
+        is_pub: container == 0,
+        is_export: false,
+        start: 20,
+        name_start: 26,
+        containers: Seq::of(Vec::from_slice(rt.alloc(), &[7, 9])?),
+        head: None,
+        whole: token,
+        fingerprint: 0,
+    })
+}
+
+#[test]
+fn parts_and_names(rt: HostRuntime) -> Result<(), Fail> {
+    let mut lines = Lines::new(rt.alloc());
+    let absent = lines.put(Form::Absent)?;
+    let value = lines.put(Form::Integer {
+        place: 10,
+        value: 7,
+    })?;
+    let whole = lines.put(Form::Constant {
+        name_place: 6,
+        local: None,
+        ty: absent,
+        value,
+    })?;
+    assert_eq!(rt; whole, 2);
+    let mut declarations = Vec::new(rt.alloc());
+    declarations.push(declaration(&rt, 0, 2)?)?;
+    declarations.push(declaration(&rt, 7, 1)?)?;
+    let mut containers = Vec::new(rt.alloc());
+    containers.push(ContainerRow {
+        token: 7,
+        start: 70,
+        fields: 0,
+        fingerprint: 0,
+    })?;
+    let blocks = Vec::new(rt.alloc());
+    let imports = Vec::new(rt.alloc());
+    let zir = Zir::of(rt.alloc(), lines, declarations, containers, blocks, imports)?;
+    let name = b"a".as_slice();
+    let inner = ContainerRef(7);
+    match zir.name_in(inner, name) {
+        Some(found) => {
+            assert_eq!(rt; found.token, 1);
+            assert_eq!(rt; found.is_pub, false);
+        }
+        None => assert_eq!(rt; 0, 1),
+    }
+    assert_eq!(rt; zir.name_in(ContainerRef(8), name).is_none(), true);
+    assert_eq!(rt; zir.name_in(inner, b"b".as_slice()).is_none(), true);
+    let part = Part::Whole {
+        container: ContainerRef(0),
+        name: Bytes::of(Vec::from_slice(rt.alloc(), name)?),
+    };
+    match zir.part(&part) {
+        Some(text) => {
+            assert_eq!(rt; text.line, 2);
+            assert_eq!(rt; text.start, 20);
+        }
+        None => assert_eq!(rt; 0, 1),
+    }
+    assert_eq!(rt; zir.part(&Part::Block { number: 0 }).is_none(), true);
+    assert_eq!(rt;
+        zir.part(&Part::Fields { container: inner }).is_some(),
+        true
+    );
+    assert_eq!(rt; zir.container_in(inner, name, 1), Some(ContainerRef(9)));
+    assert_eq!(rt; zir.container_in(inner, name, 2), None);
     Ok(())
 }
