@@ -61,7 +61,7 @@ impl Outline<'_> {
 
     /// The name that a declaration declares, after the words that lead it.
     #[tactic(auto, unfolding(crate::specs::Binders::declared_name, crate::specs::Syntax::row_in, crate::specs::Syntax::inside_of))]
-    fn declared_name(&self, row: &[Kid]) -> Option<u32>
+    pub fn declared_name(&self, row: &[Kid]) -> Option<u32>
         ensures { result ≡ spec.declared_name (row_in self.now row.now) }
     {
         let mut rest = row;

@@ -37,7 +37,7 @@ fn is_field(text: &[u8], token: &Token) -> bool
 
 /// What scoping sees of the tokens of a text.
 #[tactic(auto, unfolding(crate::specs::Facts::facts_of, crate::specs::Facts::facts_from))]
-pub fn facts(alloc: Global, text: &[u8], tokens: &[Token]) -> Result<Vec<Fact>, AllocError>
+pub fn facts_of(alloc: Global, text: &[u8], tokens: &[Token]) -> Result<Vec<Fact>, AllocError>
     requires { length tokens.now < 2 ^ 32 }
     ensures { IfOk result (λ v. v.items ≡ spec.facts_of text.now tokens.now) }
 {

@@ -35,5 +35,8 @@ mod words;
 
 pub use captures::Capture;
 pub use event::{Event, Sort, Target};
+pub use facts::{Fact, facts_of};
 pub use findings::found_at;
+pub use outline::Outline;
+pub use roles::Role;
 pub use scopes::{Scopes, resolve};

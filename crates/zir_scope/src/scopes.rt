@@ -8,7 +8,7 @@ ghost use Rattle.zir_scope.specs.Syntax.{inside_of, rule_at};
 use crate::bindings::Bindings;
 use crate::captures::{Capture, captures_of};
 use crate::event::Event;
-use crate::facts::facts;
+use crate::facts::facts_of;
 use crate::findings::found;
 use crate::outline::Outline;
 use crate::place::{Context, Reading};
@@ -73,7 +73,7 @@ pub fn resolve(
     ensures captures { IfOk result (λ s. s.captures ≡ captures_of (scoped text.now tokens.now tree.now.nodes tree.now.root)) }
     ensures found { IfOk result (λ s. s.found ≡ scope_faults text.now tokens.now tree.now.nodes tree.now.root) }
 {
-    let facts = facts(alloc, text, tokens)?;
+    let facts = facts_of(alloc, text, tokens)?;
     let outline = Outline {
         tokens,
         nodes: tree.nodes.as_slice(),

@@ -1,7 +1,7 @@
 use Rattle.std.proofs.Common.{◌≡◌, ◌++◌, ◌+◌, length}
 use Rattle.zir_form.specs.Names.{first_names}
 use Rattle.zir_scope.specs.Facts.{facts_from}
-use Rattle.zir_scope.proofs.facts.facts.Given as goal
+use Rattle.zir_scope.proofs.facts.facts_of.Given as goal
 
 abbrev pub invariant-loop-rest : goal.invariant-loop-rest
 invariant-loop-rest l = record {
