@@ -11,7 +11,7 @@ use zir_scope::found_at;
 use zw_base::{DiagCode, Found};
 
 /// The kind of a token; one that isn't there ends the file.
-fn kind_at(tokens: &[Token], token: u32) -> TokenKind
+pub fn kind_at(tokens: &[Token], token: u32) -> TokenKind
     ensures { result ≡ kind_at tokens.now token }
 {
     match tokens.get(token as usize) {

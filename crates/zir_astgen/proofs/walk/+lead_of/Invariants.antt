@@ -1,0 +1,4 @@
+use Rattle.zir_astgen.proofs.walk.+lead_of.Given as goal
+
+abbrev pub decreases-lead_of : goal.decreases-lead_of
+decreases-lead_of l = l.before

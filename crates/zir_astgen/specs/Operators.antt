@@ -1,0 +1,116 @@
+-- Operators and builtins by what they are written as.
+use Rattle.std.specs.Prelude.{ℕ, List, [], ◌∷◌, codes, map, Option, Some, None, if◌then◌else◌}
+use Rattle.std.specs.Borrow.{Bor}
+use Rattle.std.specs.Str.{bytes_eq}
+use Rattle.zig_tree.specs.declared.token.TokenKind.{TokenKind}
+use Rattle.zig_tree.specs.declared.token.TokenKind.TheVariants as kind
+use Rattle.zir_form.specs.declared.operator.BinaryOperator.{BinaryOperator}
+use Rattle.zir_form.specs.declared.operator.BinaryOperator.TheVariants as binary
+use Rattle.zir_form.specs.declared.operator.UnaryOperator.{UnaryOperator}
+use Rattle.zir_form.specs.declared.operator.UnaryOperator.TheVariants as unary
+use Rattle.zir_form.specs.declared.operator.Builtin.{Builtin}
+use Rattle.zir_form.specs.declared.operator.Builtin.TheVariants as builtin
+
+-- an operator between two operands, also as it leads an assignment
+unfoldable pub binary_of : TokenKind → Option BinaryOperator
+binary_of kind.Plus = Some binary.Add
+binary_of kind.PlusEqual = Some binary.Add
+binary_of kind.PlusPercent = Some binary.AddWrap
+binary_of kind.PlusPercentEqual = Some binary.AddWrap
+binary_of kind.PlusPipe = Some binary.AddSaturate
+binary_of kind.PlusPipeEqual = Some binary.AddSaturate
+binary_of kind.Minus = Some binary.Subtract
+binary_of kind.MinusEqual = Some binary.Subtract
+binary_of kind.MinusPercent = Some binary.SubtractWrap
+binary_of kind.MinusPercentEqual = Some binary.SubtractWrap
+binary_of kind.MinusPipe = Some binary.SubtractSaturate
+binary_of kind.MinusPipeEqual = Some binary.SubtractSaturate
+binary_of kind.Asterisk = Some binary.Multiply
+binary_of kind.AsteriskEqual = Some binary.Multiply
+binary_of kind.AsteriskPercent = Some binary.MultiplyWrap
+binary_of kind.AsteriskPercentEqual = Some binary.MultiplyWrap
+binary_of kind.AsteriskPipe = Some binary.MultiplySaturate
+binary_of kind.AsteriskPipeEqual = Some binary.MultiplySaturate
+binary_of kind.Slash = Some binary.Divide
+binary_of kind.SlashEqual = Some binary.Divide
+binary_of kind.Percent = Some binary.Remainder
+binary_of kind.PercentEqual = Some binary.Remainder
+binary_of kind.PlusPlus = Some binary.Concatenate
+binary_of kind.AsteriskAsterisk = Some binary.Repeat
+binary_of kind.PipePipe = Some binary.MergeErrors
+binary_of kind.AngleLeftAngleLeft = Some binary.ShiftLeft
+binary_of kind.AngleLeftAngleLeftEqual = Some binary.ShiftLeft
+binary_of kind.AngleLeftAngleLeftPipe = Some binary.ShiftLeftSaturate
+binary_of kind.AngleLeftAngleLeftPipeEqual = Some binary.ShiftLeftSaturate
+binary_of kind.AngleRightAngleRight = Some binary.ShiftRight
+binary_of kind.AngleRightAngleRightEqual = Some binary.ShiftRight
+binary_of kind.Ampersand = Some binary.BitAnd
+binary_of kind.AmpersandEqual = Some binary.BitAnd
+binary_of kind.Caret = Some binary.BitXor
+binary_of kind.CaretEqual = Some binary.BitXor
+binary_of kind.Pipe = Some binary.BitOr
+binary_of kind.PipeEqual = Some binary.BitOr
+binary_of kind.EqualEqual = Some binary.Equal
+binary_of kind.BangEqual = Some binary.NotEqual
+binary_of kind.AngleLeft = Some binary.Less
+binary_of kind.AngleLeftEqual = Some binary.LessOrEqual
+binary_of kind.AngleRight = Some binary.Greater
+binary_of kind.AngleRightEqual = Some binary.GreaterOrEqual
+binary_of _ = None
+
+-- an operator before its operand
+unfoldable pub unary_of : TokenKind → Option UnaryOperator
+unary_of kind.Bang = Some unary.Not
+unary_of kind.Minus = Some unary.Negate
+unary_of kind.MinusPercent = Some unary.NegateWrap
+unary_of kind.Tilde = Some unary.Complement
+unary_of _ = None
+
+-- a row: the name, and the builtin
+abbrev pub Row : Type 0
+Row = List ℕ × Builtin
+
+abbrev pub named_builtins : List Row
+named_builtins =
+    (codes "@import", builtin.Import)
+    ∷ (codes "@This", builtin.This)
+    ∷ (codes "@TypeOf", builtin.TypeOf)
+    ∷ (codes "@as", builtin.As)
+    ∷ (codes "@sizeOf", builtin.SizeOf)
+    ∷ (codes "@alignOf", builtin.AlignOf)
+    ∷ (codes "@bitSizeOf", builtin.BitSizeOf)
+    ∷ (codes "@hasDecl", builtin.HasDecl)
+    ∷ (codes "@hasField", builtin.HasField)
+    ∷ (codes "@field", builtin.Field)
+    ∷ (codes "@compileError", builtin.CompileError)
+    ∷ (codes "@setEvalBranchQuota", builtin.SetEvalBranchQuota)
+    ∷ (codes "@panic", builtin.Panic)
+    ∷ (codes "@trap", builtin.Trap)
+    ∷ (codes "@intFromBool", builtin.IntFromBool)
+    ∷ (codes "@intFromEnum", builtin.IntFromEnum)
+    ∷ (codes "@divTrunc", builtin.DivTrunc)
+    ∷ (codes "@divFloor", builtin.DivFloor)
+    ∷ (codes "@rem", builtin.Rem)
+    ∷ (codes "@mod", builtin.Mod)
+    ∷ (codes "@min", builtin.Min)
+    ∷ (codes "@max", builtin.Max)
+    ∷ (codes "@clz", builtin.Clz)
+    ∷ (codes "@ctz", builtin.Ctz)
+    ∷ (codes "@popCount", builtin.PopCount)
+    ∷ (codes "@intCast", builtin.IntCast)
+    ∷ (codes "@truncate", builtin.Truncate)
+    ∷ (codes "@bitCast", builtin.BitCast)
+    ∷ (codes "@enumFromInt", builtin.EnumFromInt)
+    ∷ []
+
+-- the rows of the program's table, as rows of this one
+abbrev pub written : List (Bor (List ℕ) × Builtin) → List Row
+written rows = map (λ row. (row.0.now, row.1)) rows
+
+-- the builtin that the row of a name has
+unfoldable pub builtin_in : List Row → List ℕ → Option Builtin
+builtin_in [] name = None
+builtin_in (row ∷ more) name = if bytes_eq row.0 name then Some row.1 else builtin_in more name
+
+unfoldable pub builtin_of : List ℕ → Option Builtin
+builtin_of name = builtin_in named_builtins name
