@@ -9,7 +9,7 @@ use Rattle.pool_words.specs.declared.view.View.{View}
 use Rattle.pool_words.specs.Views.{IsLive, Knows, Holds, informed, spent_view}
 use Rattle.pool_words.proofs.Turns.{IsShared-set}
 
-dead : (u : View) → spent_view ≡ u → IsLive u → ⊥
+pub dead : (u : View) → spent_view ≡ u → IsLive u → ⊥
 dead u e l = let z : 0 < 0 = subst IsLive (sym e) l in absurd (omega arith)
 
 pub joins : {S : Type 0} (z : Layout) (id : ℕ) (v : View) (other : ℕ) (w : View) → IsLive v → IsLive w → w.writes ≡ [] → Joins {S = S} (Holds z) id v other w (informed v w) spent_view

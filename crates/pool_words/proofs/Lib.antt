@@ -4,8 +4,11 @@ pub mod Places
 pub mod Levels
 pub mod Shards
 pub mod Orders
+pub mod Falling
+pub mod Patches
 pub mod Opening
 pub mod Turns
 pub mod Growing
 pub mod Splits
 pub mod Joins
+pub mod Gathering

@@ -9,11 +9,12 @@ use Rattle.pool_words.specs.declared.view.Layout.{Layout}
 use Rattle.pool_words.specs.declared.view.View.{View}
 use Rattle.pool_words.specs.Layout.{width, level_at, base, start, rows_of, head, level, IsLayout}
 use Rattle.pool_words.specs.Rule.{In, HasRows, Laid, IsShard, IsPool}
-use Rattle.pool_words.specs.Views.{below, first_view, Knows, Holds}
+use Rattle.pool_words.specs.Views.{below, Falls, first_view, Knows, Holds}
 use Rattle.pool_words.proofs.Windows.{window_replicate}
 use Rattle.pool_words.proofs.Members.{Extends-refl, used-nil}
 use Rattle.pool_words.proofs.Places.{level_ends, start_low, start_pos, base_in}
 use Rattle.pool_words.proofs.Levels.{HasRows-none}
+use Rattle.pool_words.proofs.Falling.{below_in, Falls-below}
 use Rattle.pool_words.proofs.Orders.{Earlier-refl, Same-refl}
 
 pub no_rows : (z : Layout) (s : ℕ) → rows_of z s [] ≡ []
@@ -49,10 +50,6 @@ IsPool-empty z l = record {
   once = λ i j key h. absurd h;
 }
 
-below_in : (n s : ℕ) → In s (below n) → s < n
-below_in zero s h = absurd h
-below_in (suc n) s h = ⊎_elim (λ e. omega arith) (λ t. let l = below_in n s t in omega arith) h
-
 pub in_below : (n s : ℕ) → s < n → In s (below n)
 in_below zero s h = absurd (omega arith)
 in_below (suc n) s h = ⊎_elim (λ l. inr (in_below n s l)) (λ g. inl (omega arith)) (cases_lt s n)
@@ -77,6 +74,7 @@ opens {S} z ws homes l e = subst (λ us. Holds z (opening us homes (first_view z
   pool = IsPool-empty z l;
   known = λ id v g live. subst (Knows z (replicate z.words 0) []) (only (first_view z) v id g).1 (first_knows z l);
   shared = record {
+    falling = λ id v g. subst (λ (u : View). Falls u.writes) (only (first_view z) v id g).1 (Falls-below z.shards);
     in_range = λ id v s g i. below_in z.shards s (subst (λ (u : View). In s u.writes) (sym (only (first_view z) v id g).1) i);
     alone = λ id id' v v' s g g' i i'. (only (first_view z) v id g).0 ∙ sym (only (first_view z) v' id' g').0;
     owned = λ s lt. (0, first_view z, refl, in_below z.shards s lt);

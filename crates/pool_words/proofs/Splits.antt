@@ -1,6 +1,6 @@
 -- A split of a seat keeps the rule.
-use Rattle.std.proofs.Common.{◌≡◌, ◌≢◌, ◌⊎◌, inl, inr, ⊎_elim, ℕ, zero, suc, ◌<◌, ◌==◌, Bool, true, false, not, List, [], ◌∷◌, ◌++◌, length, set, refl, sym, ap, ◌∙◌, subst}
-use Rattle.std.proofs.lemmas.Bool.{cases_eq, eq-eqb, ne_eqb}
+use Rattle.std.proofs.Common.{◌≡◌, ◌≢◌, ◌⊎◌, inl, inr, ⊎_elim, ℕ, zero, suc, ◌<◌, List, [], ◌∷◌, ◌++◌, length, set, refl, sym, ap, ◌∙◌, subst, arith}
+use Rattle.std.proofs.lemmas.Bool.{cases_eq}
 use Rattle.std.proofs.lemmas.List.{length-set}
 use mathlib.Core.Option.{some, some-injective, some-ne-none}
 use lib.ListN.{get_elem?}
@@ -10,8 +10,7 @@ use Rattle.pool_words.specs.declared.view.Layout.{Layout}
 use Rattle.pool_words.specs.declared.view.View.{View}
 use Rattle.pool_words.specs.Layout.{Row}
 use Rattle.pool_words.specs.Rule.{In, IsPool, Earlier, Same, Extends}
-use Rattle.pool_words.specs.Views.{IsLive, Seats, Knows, IsShared, Holds, reader, with_others, with_first, others_of, first_of}
-use Rattle.pool_words.proofs.Members.{In-filter, filter-In}
+use Rattle.pool_words.specs.Views.{IsLive, Seats, Falls, Knows, IsShared, Holds, reader, with_others, with_first, others_of, first_of}
 use Rattle.pool_words.proofs.Turns.{set_there}
 
 -- an element of a list one longer is an old one, or the last
@@ -36,6 +35,8 @@ pub record Shares (v l r : View) : Type 0 where
   pub right_in : (s : ℕ) → In s r.writes → In s v.writes
   pub apart : (s : ℕ) → In s l.writes → In s r.writes → ⊥
   pub whole : (s : ℕ) → In s v.writes → In s l.writes ⊎ In s r.writes
+  pub left_falls : Falls l.writes
+  pub right_falls : Falls r.writes
 
 module _ (z : Layout) (views : Seats) (id : ℕ) (v l r : View) (h : IsShared z views) (at : get_elem? views id ≡ some v) (sh : Shares v l r) where
   in_range : (j : ℕ) (u : View) (s : ℕ) → Kind views id l r j u → In s u.writes → s < z.shards
@@ -70,8 +71,12 @@ module _ (z : Layout) (views : Seats) (id : ℕ) (v l r : View) (h : IsShared z 
       (λ ne. (j, u, at_longer (set views id l) (r ∷ []) j u (set_else views id j l ne ∙ g), i))
       (cases_eq j id)
 
+  falls : (j : ℕ) (u : View) → Kind views id l r j u → Falls u.writes
+  falls j u k = ⊎_elim (λ a. h.falling j u a.1) (λ b. ⊎_elim (λ c. subst (λ (y : View). Falls y.writes) c.1 sh.left_falls) (λ c. subst (λ (y : View). Falls y.writes) c.1 sh.right_falls) b) k
+
   IsShared-split : IsShared z (set views id l ++ r ∷ [])
   IsShared-split = record {
+    falling = λ j u g. falls j u (kind views id l r j u g);
     in_range = λ j u s g i. in_range j u s (kind views id l r j u g) i;
     alone = λ j j' u u' s g g' i i'. alone j j' u u' s (kind views id l r j u g) (kind views id l r j' u' g') i i';
     owned = λ s lt. let o = h.owned s lt in owned s o.0 o.1 o.2 o.3;
@@ -87,9 +92,10 @@ knows_less z ws log v w k e less = record {
   told = subst (λ (l : List Row). Extends l log) (sym e.3) k.told;
 }
 
-pub splits : {S : Type 0} (z : Layout) (id : ℕ) (v l r : View) → IsLive v → Shares v l r → Splits {S = S} (Holds z) id v l r
-splits z id v l r live sh st h at =
+pub splits : {S : Type 0} (z : Layout) (id : ℕ) (v l r : View) → IsLive v → (Falls v.writes → Shares v l r) → Splits {S = S} (Holds z) id v l r
+splits z id v l r live shares st h at =
     let k = h.known id v at live in
+    let sh = shares (h.shared.falling id v at) in
     record {
       log = h.log;
       laid = h.laid;
@@ -100,14 +106,16 @@ splits z id v l r live sh st h at =
     }
 
 -- a copy that writes nothing
-pub Shares-reader : (v : View) → Shares v v (reader v)
-Shares-reader v = record {
+pub Shares-reader : (v : View) → Falls v.writes → Shares v v (reader v)
+Shares-reader v f = record {
   left_pool = (refl, refl, refl, refl);
   right_pool = (refl, refl, refl, refl);
   left_in = λ s i. i;
   right_in = λ s i. absurd i;
   apart = λ s i j. j;
   whole = λ s i. inl i;
+  left_falls = f;
+  right_falls = tt;
 }
 
 first_in : (xs : List ℕ) (s : ℕ) → In s (first_of xs) → In s xs
@@ -116,28 +124,33 @@ first_in (x ∷ xs) s i = ⊎_elim (λ e. inl e) (λ a. absurd a) i
 
 others_in : (xs : List ℕ) (s : ℕ) → In s (others_of xs) → In s xs
 others_in [] s i = i
-others_in (x ∷ xs) s i = inr (filter-In (λ t. not (t == x)) s xs i).0
+others_in (x ∷ xs) s i = inr i
 
-parted : (xs : List ℕ) (s : ℕ) → In s (others_of xs) → In s (first_of xs) → ⊥
-parted [] s i j = i
-parted (x ∷ xs) s i j = ⊎_elim (λ e. clash (s == x) (eq-eqb s x e) (filter-In (λ t. not (t == x)) s xs i).1) (λ a. a) j
-  where
-    clash : (b : Bool) → b ≡ true → not b ≡ true → ⊥
-    clash true e f = cc
-    clash false e f = cc
+parted : (xs : List ℕ) (s : ℕ) → Falls xs → In s (others_of xs) → In s (first_of xs) → ⊥
+parted [] s f i j = i
+parted (x ∷ xs) s f i j = ⊎_elim (λ e. let l = f.0 s i in absurd (omega arith)) (λ a. a) j
 
 both_parts : (xs : List ℕ) (s : ℕ) → In s xs → In s (others_of xs) ⊎ In s (first_of xs)
 both_parts [] s i = absurd i
-both_parts (x ∷ xs) s i = ⊎_elim (λ e. inr (inl e))
-    (λ j. ⊎_elim (λ e. inr (inl e)) (λ ne. inl (In-filter (λ t. not (t == x)) s xs (ap not (ne_eqb s x ne)) j)) (cases_eq s x)) i
+both_parts (x ∷ xs) s i = ⊎_elim (λ e. inr (inl e)) (λ j. inl j) i
+
+others_fall : (xs : List ℕ) → Falls xs → Falls (others_of xs)
+others_fall [] f = f
+others_fall (x ∷ xs) f = f.1
+
+first_falls : (xs : List ℕ) → Falls (first_of xs)
+first_falls [] = tt
+first_falls (x ∷ xs) = (λ t i. absurd i, tt)
 
 -- the first shard's part goes to the new seat
-pub Shares-first : (v : View) → Shares v (with_others v) (with_first v)
-Shares-first v = record {
+pub Shares-first : (v : View) → Falls v.writes → Shares v (with_others v) (with_first v)
+Shares-first v f = record {
   left_pool = (refl, refl, refl, refl);
   right_pool = (refl, refl, refl, refl);
   left_in = λ s i. others_in v.writes s i;
   right_in = λ s i. first_in v.writes s i;
-  apart = λ s i j. parted v.writes s i j;
+  apart = λ s i j. parted v.writes s f i j;
   whole = λ s i. both_parts v.writes s i;
+  left_falls = others_fall v.writes f;
+  right_falls = first_falls v.writes;
 }

@@ -10,7 +10,7 @@ use Rattle.pool_words.specs.declared.view.Layout.{Layout}
 use Rattle.pool_words.specs.declared.view.View.{View}
 use Rattle.pool_words.specs.Layout.{Row, window, used, shard_of, base, start, rows_of}
 use Rattle.pool_words.specs.Rule.{In, IsPool, Earlier, Same, Extends}
-use Rattle.pool_words.specs.Views.{IsLive, Seats, Knows, IsShared, Holds, Moves, Shown, IsPrivate, IsFree, IsReady, IsNext, IsFull, CanFill, CanMove, loaded, stored, published}
+use Rattle.pool_words.specs.Views.{IsLive, Seats, Falls, Knows, IsShared, Holds, Moves, Shown, IsPrivate, IsFree, IsReady, IsNext, IsFull, CanFill, CanMove, loaded, stored, published}
 use Rattle.pool_words.proofs.Windows.{one_row}
 use Rattle.pool_words.proofs.Members.{Extends-trans, rows_of-other}
 use Rattle.pool_words.proofs.Places.{start_low, start_pos, shard_in}
@@ -39,6 +39,7 @@ module _ (z : Layout) (views : Seats) (id : ℕ) (v w : View) (h : IsShared z vi
 
   pub IsShared-set : IsShared z (set views id w)
   IsShared-set = record {
+    falling = λ j u g. let x = was j u g in subst Falls x.2 (h.falling j x.0 x.1);
     in_range = λ j u s g i. let x = was j u g in h.in_range j x.0 s x.1 (subst (In s) (sym x.2) i);
     alone = λ j j' u u' s g g' i i'. let x = was j u g in let x' = was j' u' g' in h.alone j j' x.0 x'.0 s x.1 x'.1 (subst (In s) (sym x.2) i) (subst (In s) (sym x'.2) i');
     owned = λ s l. let o = h.owned s l in is_owned s o.0 o.1 o.2 o.3;
@@ -215,7 +216,7 @@ module _ {S : Type 0} (z : Layout) (slots id : ℕ) (me : Me S View) (live : IsL
         keeps,
         tt,
         subst (λ y. Holds y (stepped st i (slice_index st.words i) id me.1 w keeps)) o.0 (subst (λ us. Holds me.0.layout record { words = us; homes = st.homes; views = set st.views id w }) (sym same) (load_holds st id me.0 o.1 at live st.homes)),
-        (load_moves st id me.0 o.1 at live st.homes, refl, refl),
+        (load_moves st id me.0 o.1 at live st.homes, refl, refl, o.1.shared.falling id me.0 at),
       )
 
   pub store_allowed : (i x : ℕ) → IsPrivate me.0 i → Allows (Holds z) slots id me i (λ _. x) (λ _. stored (step slots i x 0 none) me x)

@@ -1,6 +1,5 @@
 -- What a seat knows: the pool as it was at its last step. A seat that has the writer's part of a shard knows that shard as it is.
-use Rattle.std.specs.Prelude.{◌≡◌, ◌≢◌, ℕ, zero, suc, ◌+◌, ◌<◌, ◌≤◌, ◌==◌, not, List, [], ◌∷◌, ◌++◌, length, take, replicate, slice_index, slice_set}
-use Rattle.std.specs.List.{filter}
+use Rattle.std.specs.Prelude.{◌≡◌, ◌≢◌, ℕ, zero, suc, ◌+◌, ◌<◌, ◌≤◌, nat_lt, if◌then◌else◌, List, [], ◌∷◌, ◌++◌, length, take, drop, replicate, slice_index, slice_set}
 use mathlib.Core.Option.{some}
 use lib.ListN.{get_elem?}
 use Rattle.atomic_table.specs.Table.{State, Me, Step}
@@ -29,8 +28,14 @@ pub record Knows (z : Layout) (ws : List ℕ) (log : List Row) (v : View) : Type
 abbrev pub Seats : Type 0
 Seats = List View
 
--- exactly one seat has the writer's part of a shard
+-- each number is above all that come after it
+abbrev pub Falls : List ℕ → Type 0
+Falls [] = Unit {0}
+Falls (s ∷ ss) = ((t : ℕ) → In t ss → t < s) × Falls ss
+
+-- exactly one seat has the writer's part of a shard. Each view lists its shards from the last to the first
 pub record IsShared (z : Layout) (views : Seats) : Type 0 where
+  pub falling : (id : ℕ) (v : View) → get_elem? views id ≡ some v → Falls v.writes
   pub in_range : (id : ℕ) (v : View) (s : ℕ) → get_elem? views id ≡ some v → In s v.writes → s < z.shards
   pub alone : (id id' : ℕ) (v v' : View) (s : ℕ) → get_elem? views id ≡ some v → get_elem? views id' ≡ some v' → In s v.writes → In s v'.writes → id ≡ id'
   pub owned : (s : ℕ) → s < z.shards → (id : ℕ) × (v : View) × (get_elem? views id ≡ some v) × In s v.writes
@@ -128,9 +133,9 @@ pub record CanMove (v : View) (word value : ℕ) : Type 0 where
   pub at : word ≡ base v.layout shard
   pub is : value ≡ suc head_is
 
--- a load tells the word of the pool that it shows
+-- a load tells the word of the pool that it shows, and the order in which the seat's shards are listed
 abbrev pub loaded : {S : Type 0} → Step S → Me S View → ℕ → Me S View → Type 0
-loaded st m n m' = Shown m.0 m'.0 × (n ≡ slice_index m'.0.words st.word) × (m'.1 ≡ m.1)
+loaded st m n m' = Shown m.0 m'.0 × (n ≡ slice_index m'.0.words st.word) × (m'.1 ≡ m.1) × Falls m'.0.writes
 
 -- a store of a word of the seat's own shards, by which no row becomes known
 abbrev pub stored : {S : Type 0} → Step S → Me S View → ℕ → Me S View → Type 0
@@ -151,7 +156,7 @@ first_of (s ∷ ss) = s ∷ []
 
 abbrev pub others_of : List ℕ → List ℕ
 others_of [] = []
-others_of (s ∷ ss) = filter (λ t. not (t == s)) ss
+others_of (s ∷ ss) = ss
 
 -- a view that has the first of the writer's parts, and one that has the others
 abbrev pub with_first : View → View
@@ -163,6 +168,28 @@ with_others v = record { layout = v.layout; words = v.words; log = v.log; writes
 -- a view that was told of what another one knew
 abbrev pub informed : View → View → View
 informed v w = record { layout = v.layout; words = v.words; log = v.log; writes = v.writes; told = w.log }
+
+-- words in which a shard is as it is in others
+abbrev pub patched : Layout → List ℕ → List ℕ → ℕ → List ℕ
+patched z ws us s = take (base z s) ws ++ (window us (base z s) z.size ++ drop (base z s + z.size) ws)
+
+-- a falling list with one number more
+abbrev pub put_in : ℕ → List ℕ → List ℕ
+put_in s [] = s ∷ []
+put_in s (t ∷ ts) = if nat_lt t s then s ∷ t ∷ ts else t ∷ put_in s ts
+
+-- the one shard whose writer's part a view has
+abbrev pub own_shard : View → ℕ
+own_shard v = slice_index v.writes 0
+
+-- a view that took over the writer's part of another one, and with it that shard as it is
+abbrev pub gathered : View → View → View
+gathered v w = record { layout = v.layout; words = patched v.layout v.words w.words (own_shard w); log = v.log; writes = put_in (own_shard w) v.writes; told = w.log }
+
+-- a view with one shard, whose rows in the log of v are those that it knows
+pub record CanGather (v w : View) : Type 0 where
+  pub one : w.writes ≡ own_shard w ∷ []
+  pub rows : rows_of v.layout (own_shard w) v.log ≡ rows_of v.layout (own_shard w) w.log
 
 -- what is left of a view that was joined
 abbrev pub spent_view : View

@@ -4,7 +4,7 @@
 //! The model: the words, and the log of the rows that were published. A seat's view is the pool as
 //! it was at the seat's last step, and the shards whose one writer it is.
 //! Public calls: one function for each kind of step, `load`, `store_private`, `fill`, `move_head`,
-//! `publish`, `split`, `hand_over` and `join`, and `open`, which makes the words.
+//! `publish`, `split`, `hand_over`, `join` and `gather`, and `open`, which makes the words.
 //! The crate stands on the kit's `atomic_table`.
 #![tactic(auto)]
 
@@ -13,5 +13,7 @@ mod steps;
 mod tests;
 mod view;
 
-pub use steps::{fill, hand_over, join, load, move_head, open, publish, split, store_private};
+pub use steps::{
+    fill, gather, hand_over, join, load, move_head, open, publish, split, store_private,
+};
 pub use view::{Layout, PoolRule, View, WordSeat, Words};

@@ -1,9 +1,11 @@
 // The steps: one function for each kind, and the opening.
 ghost use Rattle.std.specs.Prelude.{◌≡◌, ◌+◌, ◌<◌, [], ◌∷◌, ◌++◌, length, replicate, slice_index, slice_set, IfOk};
 ghost use Rattle.pool_words.specs.Layout.{Row, IsLayout};
-ghost use Rattle.pool_words.specs.Views.{first_view, Moves, Shown, IsPrivate, IsReady, CanFill, CanMove, IsLive, reader, with_first, with_others, informed};
+ghost use Rattle.pool_words.specs.Views.{first_view, Moves, Shown, IsPrivate, IsReady, CanFill, CanMove, IsLive, reader, with_first, with_others, informed, gathered, CanGather, Falls};
 
-use crate::view::{Copies, HandsOver, Layout, Loads, Publishes, Stores, Tells, WordSeat, Words};
+use crate::view::{
+    Copies, Gathers, HandsOver, Layout, Loads, Publishes, Stores, Tells, WordSeat, Words,
+};
 use std::alloc::{AllocError, Global};
 
 /// A pool of words that are all 0, with the seat that has the writer's part of every shard.
@@ -16,7 +18,7 @@ pub fn open(alloc: Global, layout: &Layout, zeros: &[u64]) -> Result<(Words, Wor
     Words::of_words(alloc, zeros, layout)
 }
 
-/// A load, by any seat. It shows the seat the pool.
+/// A load, by any seat. It shows the seat the pool, and in which order its shards are listed.
 pub fn load(words: &Words, seat: &mut WordSeat, word: usize) -> u64
     requires of { seat.old.table_id ≡ words.now.shared.table_id }
     requires live { IsLive seat.old.me.0 }
@@ -24,6 +26,7 @@ pub fn load(words: &Words, seat: &mut WordSeat, word: usize) -> u64
     ensures seat { (seat.new.table_id ≡ seat.old.table_id) × (seat.new.id ≡ seat.old.id) × (seat.new.me.1 ≡ seat.old.me.1) }
     ensures shown { Shown seat.old.me.0 seat.new.me.0 }
     ensures found { result ≡ slice_index seat.new.me.0.words word }
+    ensures order { Falls seat.new.me.0.writes }
 {
     words.shared.load::<Loads>(seat, word)
 }
@@ -110,4 +113,18 @@ pub fn join(words: &Words, seat: &mut WordSeat, other: WordSeat)
     ensures { (seat.new.table_id ≡ seat.old.table_id) × (seat.new.id ≡ seat.old.id) × (seat.new.me ≡ (informed seat.old.me.0 other.me.0, seat.old.me.1)) }
 {
     words.shared.join_seat::<Tells>(seat, other);
+}
+
+/// Joins a seat that is one shard's writer. The first seat takes over its part, and with it the
+/// shard as it is.
+pub fn gather(words: &Words, seat: &mut WordSeat, other: WordSeat)
+    requires of { seat.old.table_id ≡ words.now.shared.table_id }
+    requires live { IsLive seat.old.me.0 }
+    requires other_of { other.table_id ≡ words.now.shared.table_id }
+    requires other_live { IsLive other.me.0 }
+    requires writes { CanGather seat.old.me.0 other.me.0 × (other.me.1 ≡ []) }
+    requires some { 0 < words.now.shared.table_id.words }
+    ensures { (seat.new.table_id ≡ seat.old.table_id) × (seat.new.id ≡ seat.old.id) × (seat.new.me ≡ (gathered seat.old.me.0 other.me.0, seat.old.me.1)) }
+{
+    words.shared.join_seat::<Gathers>(seat, other);
 }

@@ -97,6 +97,17 @@ impl Join<View> for Tells {
     ghost spent = { spent_view };
 }
 
+/// A seat takes over the one shard of another one, which is spent.
+pub(crate) struct Gathers;
+
+impl Join<View> for Gathers {
+    ghost use Rattle.pool_words.specs.Views.{gathered, spent_view};
+
+    ghost both = { gathered };
+
+    ghost spent = { spent_view };
+}
+
 /// The words of a pool, which its seats share.
 pub type Words = Table<(), View, Layout, PoolRule, Global>;
 
