@@ -1,5 +1,5 @@
 -- The counts of the shards, after steps.
-use Rattle.std.proofs.Common.{◌≡◌, inl, inr, ⊎_elim, ℕ, suc, ◌+◌, ◌*◌, ◌^◌, ◌<◌, ◌≤◌, List, [], ◌∷◌, ◌++◌, length, set, slice_index, sym, ap, ◌∙◌, subst, arith, get_or-set_same, get_or-set_other, length-append}
+use Rattle.std.proofs.Common.{◌≡◌, inl, inr, ⊎_elim, ℕ, suc, ◌+◌, ◌-◌, ◌*◌, ◌^◌, ◌<◌, ◌≤◌, List, [], ◌∷◌, ◌++◌, length, set, slice_index, sym, ap, ◌∙◌, subst, arith, get_or-set_same, get_or-set_other, length-append}
 use Rattle.std.proofs.lemmas.Bool.{cases_eq}
 use Rattle.std.proofs.lemmas.List.{length-set}
 use Rattle.atomic_table.specs.Seated.{TableId}
@@ -22,6 +22,13 @@ most_rows z v s p l =
     let m = half_mono (head z v.words s) z.top b.head_in in
     let e = b.live in
     (omega arith, b.fits)
+
+-- a shard that has as many rows, or whose row does not fit, is at the numbers
+pub by_rows : (z : Layout) (v : View) (s n count taken : ℕ) → IsPool z v.words v.log → s < z.shards → IsPart z v s count taken → half z.top ≤ count → IsAtNumbers z v.log s n
+by_rows z v s n count taken p l x h = let m = most_rows z v s p l in let c = x.counted in let e : length (rows_of z s v.log) ≡ half z.top = omega arith in inl (e ∙ half_is z.top)
+
+pub by_words : (z : Layout) (v : View) (s n count taken left : ℕ) → IsPool z v.words v.log → s < z.shards → IsPart z v s count taken → left ≡ z.size - start z - taken → left < n + 1 → IsAtNumbers z v.log s n
+by_words z v s n count taken left p l x e h = let m = most_rows z v s p l in let c = x.summed in inr (omega arith)
 
 pub GoesOn-of : (p q : Rows) → q.id ≡ p.id → q.view.layout ≡ p.view.layout → IsLayout q.view.layout → Extends p.view.log q.view.log → IsPool q.view.layout q.view.words q.view.log → GoesOn p q
 GoesOn-of p q e f laid x pool = record {
@@ -52,28 +59,29 @@ full_later p q s g l f =
 pub full_at : (z : Layout) (log : List Row) (s n : ℕ) → n ≤ 64 → IsAtNumbers z log s n → IsFullShard z log s
 full_at z log s n h f = ⊎_elim (λ a. inl a) (λ b. inr (omega arith)) f
 
+-- the counts of a shard, after steps that keep it
+pub IsPart-keeps : (z : Layout) (u v : View) (s count taken : ℕ) → u.layout ≡ z → s < z.shards → IsPool z u.words u.log → Keeps u v → In s u.writes → IsPart z u s count taken → IsPart z v s count taken
+IsPart-keeps z u v s count taken e l pool k i p =
+    let rows : rows_of z s v.log ≡ rows_of z s u.log = subst (λ y. rows_of y s v.log ≡ rows_of y s u.log) e (k.rows s i) in
+    record {
+      counted = p.counted ∙ ap length (sym rows);
+      summed = p.summed ∙ ap used (sym rows);
+      ready = IsReady-keeps z u v s e l pool k i p.ready;
+    }
+
 pub IsRows-keeps : {S : Type 0} (z : Layout) (t : TableId) (q r : Seat S View) (counts sums : List ℕ) → IsRows z t q counts sums → IsSeat z t r → Keeps q.me.0 r.me.0 → r.me.1 ≡ q.me.1 → IsRows z t r counts sums
 IsRows-keeps z t q r counts sums h seat k slots = record {
   seat = seat;
   slots = slots ∙ h.slots;
   many_counts = h.many_counts;
   many_sums = h.many_sums;
+  all = k.writes ∙ h.all;
   owns = λ s l. subst (In s) (sym k.writes) (h.owns s l);
-  parts = λ s l.
-      let p = h.parts s l in
-      let u = q.me.0 in
-      let v = r.me.0 in
-      let i = h.owns s l in
-      let rows : rows_of z s v.log ≡ rows_of z s u.log = subst (λ y. rows_of y s v.log ≡ rows_of y s u.log) h.seat.layout (k.rows s i) in
-      record {
-        counted = p.counted ∙ ap length (sym rows);
-        summed = p.summed ∙ ap used (sym rows);
-        ready = IsReady-keeps z u v s h.seat.layout l h.seat.pool k i p.ready;
-      };
+  parts = λ s l. IsPart-keeps z q.me.0 r.me.0 s (slice_index counts s) (slice_index sums s) h.seat.layout l h.seat.pool k (h.owns s l) (h.parts s l);
 }
 
 -- a shard whose head, levels and rows are the same
-IsPart-same : (z : Layout) (u v : View) (s count taken : ℕ) → head z v.words s ≡ head z u.words s → ((k : ℕ) → k ≤ z.top → level z v.words s k ≡ level z u.words s k) → rows_of z s v.log ≡ rows_of z s u.log → IsPart z u s count taken → IsPart z v s count taken
+pub IsPart-same : (z : Layout) (u v : View) (s count taken : ℕ) → head z v.words s ≡ head z u.words s → ((k : ℕ) → k ≤ z.top → level z v.words s k ≡ level z u.words s k) → rows_of z s v.log ≡ rows_of z s u.log → IsPart z u s count taken → IsPart z v s count taken
 IsPart-same z u v s count taken hd lv rows p = record {
   counted = p.counted ∙ ap length (sym rows);
   summed = p.summed ∙ ap used (sym rows);
@@ -83,6 +91,21 @@ IsPart-same z u v s count taken hd lv rows p = record {
 }
 
 -- one row more in a shard
+pub IsPart-adds : (z : Layout) (u v w : View) (s count taken : ℕ) (row : Row) → u.layout ≡ z → In s u.writes → Touches s u v → Adds s row v w → IsPart z u s count taken → IsPart z w s (count + 1) (taken + length row.1 + 1)
+IsPart-adds z u v w s count taken row e i a b p =
+    let f : v.layout ≡ z = a.layout ∙ e in
+    let rows : rows_of z s v.log ≡ rows_of z s u.log = subst (λ y. rows_of y s v.log ≡ rows_of y s u.log) e (a.rows s i) in
+    let new : rows_of z s w.log ≡ rows_of z s u.log ++ row ∷ [] = subst (λ y. rows_of y s w.log ≡ rows_of y s v.log ++ row ∷ []) f b.added ∙ ap (λ (l : List Row). l ++ row ∷ []) rows in
+    let n : length (rows_of z s w.log) ≡ length (rows_of z s u.log) + 1 = ap length new ∙ length-append (rows_of z s u.log) (row ∷ []) in
+    let m : used (rows_of z s w.log) ≡ used (rows_of z s u.log) + (length row.1 + 1) = ap used new ∙ used-push (rows_of z s u.log) row in
+    let x = p.counted in
+    let y = p.summed in
+    record {
+      counted = omega arith;
+      summed = omega arith;
+      ready = subst (λ y. IsReadyShard y w.words s) f b.ready;
+    }
+
 pub IsRows-adds : {S : Type 0} (z : Layout) (t : TableId) (q r : Seat S View) (v : View) (counts sums : List ℕ) (s : ℕ) (row : Row) → IsRows z t q counts sums → IsSeat z t r → s < z.shards → Touches s q.me.0 v → Adds s row v r.me.0 → r.me.1 ≡ q.me.1
     → IsRows z t r (set counts s (slice_index counts s + 1)) (set sums s (slice_index sums s + length row.1 + 1))
 IsRows-adds z t q r v counts sums s row h seat lt a b slots = record {
@@ -90,6 +113,7 @@ IsRows-adds z t q r v counts sums s row h seat lt a b slots = record {
   slots = slots ∙ h.slots;
   many_counts = length-set counts s (slice_index counts s + 1) ∙ h.many_counts;
   many_sums = length-set sums s (slice_index sums s + length row.1 + 1) ∙ h.many_sums;
+  all = b.writes ∙ (a.writes ∙ h.all);
   owns = λ n l. subst (In n) (sym (b.writes ∙ a.writes)) (h.owns n l);
   parts = λ n l. ⊎_elim (λ e. subst (λ m. IsPart z r.me.0 m (slice_index (set counts s (slice_index counts s + 1)) m) (slice_index (set sums s (slice_index sums s + length row.1 + 1)) m)) (sym e) own) (λ ne. other n l ne) (cases_eq n s);
 }
@@ -102,20 +126,10 @@ IsRows-adds z t q r v counts sums s row h seat lt a b slots = record {
 
     own : IsPart z r.me.0 s (slice_index (set counts s (slice_index counts s + 1)) s) (slice_index (set sums s (slice_index sums s + length row.1 + 1)) s)
     own =
-        let p = h.parts s lt in
         let c : slice_index (set counts s (slice_index counts s + 1)) s ≡ slice_index counts s + 1 = get_or-set_same counts s (slice_index counts s + 1) 0 (let m = h.many_counts in omega arith) in
         let d : slice_index (set sums s (slice_index sums s + length row.1 + 1)) s ≡ slice_index sums s + length row.1 + 1 = get_or-set_same sums s (slice_index sums s + length row.1 + 1) 0 (let m = h.many_sums in omega arith) in
-        let rows : rows_of z s v.log ≡ rows_of z s q.me.0.log = subst (λ y. rows_of y s v.log ≡ rows_of y s q.me.0.log) lu (a.rows s (h.owns s lt)) in
-        let new : rows_of z s r.me.0.log ≡ rows_of z s q.me.0.log ++ row ∷ [] = subst (λ y. rows_of y s r.me.0.log ≡ rows_of y s v.log ++ row ∷ []) lv b.added ∙ ap (λ (l : List Row). l ++ row ∷ []) rows in
-        let n : length (rows_of z s r.me.0.log) ≡ length (rows_of z s q.me.0.log) + 1 = ap length new ∙ length-append (rows_of z s q.me.0.log) (row ∷ []) in
-        let u : used (rows_of z s r.me.0.log) ≡ used (rows_of z s q.me.0.log) + (length row.1 + 1) = ap used new ∙ used-push (rows_of z s q.me.0.log) row in
-        let x = p.counted in
-        let y = p.summed in
-        record {
-          counted = omega arith;
-          summed = omega arith;
-          ready = subst (λ y. IsReadyShard y r.me.0.words s) lv b.ready;
-        }
+        subst (λ n. IsPart z r.me.0 s n (slice_index (set sums s (slice_index sums s + length row.1 + 1)) s)) (sym c) (subst (IsPart z r.me.0 s (slice_index counts s + 1)) (sym d)
+        (IsPart-adds z q.me.0 v r.me.0 s (slice_index counts s) (slice_index sums s) row lu (h.owns s lt) a b (h.parts s lt)))
 
     other : (n : ℕ) → n < z.shards → (n ≡ s → ⊥) → IsPart z r.me.0 n (slice_index (set counts s (slice_index counts s + 1)) n) (slice_index (set sums s (slice_index sums s + length row.1 + 1)) n)
     other n l ne =

@@ -2,14 +2,15 @@
 use Rattle.std.proofs.Common.{◌≡◌, ℕ, ◌+◌, ◌<◌, ◌≤◌, List, set, refl, sym, ◌∙◌, subst}
 use Rattle.pool_words.specs.declared.view.Layout.{Layout}
 use Rattle.pool_words.specs.declared.view.View.{View}
-use Rattle.pool_words.specs.Layout.{Row, rows_of, used, base, start, head, level, IsLayout}
+use Rattle.pool_words.specs.Layout.{Row, shard_of, rows_of, used, base, start, head, level, IsLayout}
 use Rattle.pool_words.specs.Rule.{In, IsPool, Earlier, Same}
 use Rattle.pool_words.specs.Views.{Moves, Shown}
+use Rattle.pool_words.proofs.Members.{In-rows_of, rows_of-In}
 use Rattle.pool_words.proofs.Orders.{Earlier-refl, Earlier-trans, head_same, level_same}
 use Rattle.pool_words.proofs.Shards.{head_spared, level_spared, private_spares}
 use Rattle.atomic_table.specs.Seated.{TableId}
 use Rattle.atomic_table.specs.declared.shared.Seat.{Seat}
-use Rattle.pool_shard.specs.Looks.{IsSeat, Keeps}
+use Rattle.pool_shard.specs.Looks.{IsSeat, Keeps, HasNot}
 
 pub Keeps-shown : (v w : View) → Shown v w → Keeps v w
 Keeps-shown v w m = record {
@@ -69,3 +70,10 @@ IsSeat-moves z t q r ws log h e m = record {
   laid = h.laid;
   pool = subst (λ y. IsPool y r.me.0.words r.me.0.log) h.layout m.pool;
 }
+
+-- a key that had no row has none where the rows of its shard stayed
+pub still_new : (v w : View) (z : Layout) (key : List ℕ) → v.layout ≡ z → Keeps v w → In (shard_of z key) v.writes → HasNot v.log key → HasNot w.log key
+still_new v w z key lv k i none j m =
+    let rows : rows_of z (shard_of z key) w.log ≡ rows_of z (shard_of z key) v.log = subst (λ y. rows_of y (shard_of z key) w.log ≡ rows_of y (shard_of z key) v.log) lv (k.rows (shard_of z key) i) in
+    let a = subst (In (j, key)) rows (In-rows_of z (shard_of z key) (j, key) w.log refl m) in
+    none j (rows_of-In z (shard_of z key) (j, key) v.log a).0

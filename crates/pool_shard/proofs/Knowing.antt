@@ -1,8 +1,8 @@
 -- The published rows as pairs of index and key.
-use Rattle.std.proofs.Common.{◌≡◌, inl, inr, ⊎_elim, ℕ, ◌==◌, Bool, true, false, if◌then◌else◌, List, [], ◌∷◌, ◌++◌, Option, Some, None, IsSome, refl, sym, ap, ◌∙◌, subst}
+use Rattle.std.proofs.Common.{◌≡◌, inl, inr, ⊎_elim, ℕ, ◌==◌, Bool, true, false, if◌then◌else◌, nat_eq, MatchBool, List, [], ◌∷◌, ◌++◌, Option, Some, None, IsSome, refl, sym, ap, ◌∙◌, subst}
 use Rattle.std.proofs.lemmas.Bool.{eqb-true, eq-eqb}
 use Rattle.type_form.specs.declared.index.Index.{Index}
-use Rattle.type_form.specs.Known.{words_at, Keeps, IsInjective}
+use Rattle.type_form.specs.Known.{Known, words_at, Keeps, IsInjective}
 use Rattle.type_form.specs.Words.{index_of}
 use Rattle.type_form.specs.Means.{Grows}
 use Rattle.type_form.proofs.MeansLemmas.{Grows-keeps}
@@ -66,9 +66,20 @@ pool_injective z ws log p = record { once = λ i j key a b. same_index i j (p.on
 pub known_grows : (z : Layout) (ws : List ℕ) (log log' : List Row) → IsPool z ws log' → Extends log log' → Grows (known_of log) (known_of log')
 known_grows z ws log log' p x = Grows-keeps (known_of log) (known_of log') (known_keeps log log' x) (λ _. pool_injective z ws log' p)
 
+some_of : (o : Option (List ℕ)) → IsSome o → (ws : List ℕ) × (o ≡ Some ws)
+some_of None h = cc
+some_of (Some ws) h = (ws, refl)
+
+some_words : (k : Known) (i : Index) → IsSome (words_at k i) → (ws : List ℕ) × (words_at k i ≡ Some ws)
+some_words k i h = some_of (words_at k i) h
+
 pub known_some : (log : List Row) (i : Index) → IsSome (words_at (known_of log) i) → (ws : List ℕ) × (words_at (known_of log) i ≡ Some ws)
-known_some log i h = some_of (words_at (known_of log) i) h
-  where
-    some_of : (o : Option (List ℕ)) → IsSome o → (ws : List ℕ) × (o ≡ Some ws)
-    some_of None h = cc
-    some_of (Some ws) h = (ws, refl)
+known_some log i h = some_words (known_of log) i h
+
+key_cases : (b : Bool) (k : Known) (i j : Index) → IsInjective k → IsSome (words_at k i) → nat_eq i.0 j.0 ≡ b → MatchBool b (words_at k i ≡ words_at k j) (words_at k i ≡ words_at k j → ⊥)
+key_cases true k i j once some e = ap (words_at k) (same_index i j (eqb-true i.0 j.0 e))
+key_cases false k i j once some e = λ same. let w = some_words k i some in let f = once.once i j w.0 w.1 (sym same ∙ w.1) in not_both (nat_eq i.0 j.0) e (eq-eqb i.0 j.0 (ap (λ (n : Index). n.0) f))
+
+-- known indices are one exactly where their keys are
+pub one_key_at : (k : Known) (i j : Index) → IsInjective k → IsSome (words_at k i) → MatchBool (nat_eq i.0 j.0) (words_at k i ≡ words_at k j) (words_at k i ≡ words_at k j → ⊥)
+one_key_at k i j once some = key_cases (nat_eq i.0 j.0) k i j once some refl

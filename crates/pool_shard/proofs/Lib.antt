@@ -5,3 +5,4 @@ pub mod Publishing
 pub mod Knowing
 pub mod Counting
 pub mod Starting
+pub mod Sharing

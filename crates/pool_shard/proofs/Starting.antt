@@ -38,6 +38,7 @@ IsRows-open {S} z t q counts sums l of wide e f g = record {
   slots = ap (λ (m : Me S View). m.1) e;
   many_counts = ap length f ∙ length-replicate z.shards 0;
   many_sums = ap length g ∙ length-replicate z.shards 0;
+  all = ap (λ (m : Me S View). m.0.writes) e;
   owns = λ s lt. subst (λ (m : Me S View). In s m.0.writes) (sym e) (in_below z.shards s lt);
   parts = λ s lt.
       let a : slice_index counts s ≡ 0 = ap (λ xs. slice_index xs s) f ∙ get_or-replicate z.shards s 0 0 lt in

@@ -6,6 +6,8 @@ use Rattle.pool_words.specs.declared.view.Layout.{Layout}
 use Rattle.pool_words.specs.declared.view.View.{View}
 use Rattle.pool_words.specs.Layout.{Row, width, half, spot, level_at, base, used, rows_of, head, level, IsLayout}
 use Rattle.pool_words.specs.Rule.{In, HasRows, IsPool, Earlier}
+use Rattle.pool_words.specs.Views.{Falls, below}
+use Rattle.pool_shard.specs.Pairs.{PoolId}
 
 -- a seat at a table of this layout
 pub record IsSeat {S : Type 0} (z : Layout) (t : TableId) (q : Seat S View) : Type 0 where
@@ -86,6 +88,7 @@ pub record IsRows {S : Type 0} (z : Layout) (t : TableId) (q : Seat S View) (cou
   pub slots : q.me.1 ≡ []
   pub many_counts : length counts ≡ z.shards
   pub many_sums : length sums ≡ z.shards
+  pub all : q.me.0.writes ≡ below z.shards
   pub owns : (s : ℕ) → s < z.shards → In s q.me.0.writes
   pub parts : (s : ℕ) → s < z.shards → IsPart z q.me.0 s (slice_index counts s) (slice_index sums s)
 
@@ -99,3 +102,37 @@ pub record Adds (s : ℕ) (r : Row) (v w : View) : Type 0 where
   pub rows : (t : ℕ) → In t v.writes → (t ≡ s → ⊥) → rows_of v.layout t w.log ≡ rows_of v.layout t v.log
   pub added : rows_of v.layout s w.log ≡ rows_of v.layout s v.log ++ r ∷ []
   pub ready : IsReadyShard v.layout w.words s
+
+-- a seat that is no shard's writer
+pub record IsReader {S : Type 0} (q : Seat S View) : Type 0 where
+  pub seat : IsSeat q.me.0.layout q.table_id q
+  pub slots : q.me.1 ≡ []
+  pub none : q.me.0.writes ≡ []
+
+-- the seat of a shard's writer, with the counts that it keeps
+pub record IsWriter {S : Type 0} (z : Layout) (t : TableId) (q : Seat S View) (s count taken : ℕ) : Type 0 where
+  pub seat : IsSeat z t q
+  pub slots : q.me.1 ≡ []
+  pub one : q.me.0.writes ≡ s ∷ []
+  pub in_range : s < z.shards
+  pub part : IsPart z q.me.0 s count taken
+
+-- a seat that has the writer's part of some shards, with their counts
+pub record IsGathered {S : Type 0} (z : Layout) (t : TableId) (q : Seat S View) (counts sums : List ℕ) : Type 0 where
+  pub seat : IsSeat z t q
+  pub slots : q.me.1 ≡ []
+  pub falls : Falls q.me.0.writes
+  pub many_counts : length counts ≡ z.shards
+  pub many_sums : length sums ≡ z.shards
+  pub in_range : (s : ℕ) → In s q.me.0.writes → s < z.shards
+  pub parts : (s : ℕ) → In s q.me.0.writes → IsPart z q.me.0 s (slice_index counts s) (slice_index sums s)
+
+-- a pool that is shared, which its name names, with room for the counts of each shard and as many locks
+pub record IsPoolOf (n : PoolId) (z : Layout) (t : TableId) (counts sums locks : ℕ) : Type 0 where
+  pub layout : z ≡ n.layout
+  pub table : t ≡ n.table
+  pub laid : IsLayout z
+  pub wide : t.words ≡ z.words
+  pub many_counts : counts ≡ z.shards
+  pub many_sums : sums ≡ z.shards
+  pub many_locks : locks ≡ z.shards

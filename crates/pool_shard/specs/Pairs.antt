@@ -22,6 +22,22 @@ pub record Rows : Type 0 where
 abbrev pub known : Rows → Known
 known p = known_of p.view.log
 
+-- which table a pool is, and how it is laid out
+pub record PoolId : Type 0 where
+  pub table : TableId
+  pub layout : Layout
+
+-- the pool of rows, and of a seat at it
+abbrev pub pool_of : Rows → PoolId
+pool_of p = record { table = p.id; layout = p.view.layout }
+
+-- no pool
+abbrev pub no_pool : PoolId
+no_pool = record {
+  table = record { words = 0; slots = 0; views_name = 0; atom = 0; block = 0; offset = 0; slot_names = [] };
+  layout = record { shards = 0; size = 0; top = 0; words = 0 };
+}
+
 -- The shard's rows are at the numbers: there are as many as half of the slots of its last level, or the words of one more row with a key of this length don't fit
 abbrev pub IsAtNumbers : Layout → List Row → ℕ → ℕ → Type 0
 IsAtNumbers z log s n = (length (rows_of z s log) ≡ 32 * 2 ^ z.top) ⊎ (z.size < start z + used (rows_of z s log) + (n + 1))

@@ -1,10 +1,11 @@
 // The pool's rows with one seat, which has the writer's part of every shard.
-ghost use Rattle.std.specs.Prelude.{◌≡◌, ℕ, ◌+◌, ◌*◌, ◌/◌, ◌<◌, ◌≤◌, ◌^◌, [], length, replicate, IsSome, IfSome, IfNone, IfOk, IfErr};
+ghost use Rattle.std.specs.Prelude.{◌≡◌, ℕ, ◌+◌, ◌*◌, ◌/◌, ◌<◌, ◌≤◌, ◌^◌, [], length, replicate, IsSome, IfSome, IfNone, IfOk, IfErr, MatchBool};
 ghost use Rattle.type_form.specs.Known.{words_at, IsInjective};
+ghost use Rattle.type_form.specs.Known.{Keeps as KeepsWords};
 ghost use Rattle.type_form.specs.Means.{Grows};
 ghost use Rattle.pool_words.specs.Layout.{hash_of, shard_of, head, level, level_at, IsLayout};
 ghost use Rattle.pool_words.specs.Rule.{In, Extends, IsPool};
-ghost use Rattle.pool_shard.specs.Pairs.{known, GoesOn, IsAtNumbers};
+ghost use Rattle.pool_shard.specs.Pairs.{known, pool_of, GoesOn, IsAtNumbers};
 ghost use Rattle.pool_shard.specs.Looks.{IsSpot, HasNot};
 
 use crate::add::{add_row, half_of, open_slot};
@@ -12,6 +13,7 @@ use crate::find::{base_of, find_by, read_row, shard_by};
 use crate::hash::hash_key;
 use crate::look::look;
 use crate::probe::probe;
+use crate::seat::{RawSeat, copy, tell};
 use crate::write::start_of;
 use pool_words::{Layout, WordSeat, Words, open};
 use std::alloc::{AllocError, Global};
@@ -27,13 +29,13 @@ pub struct Full {
 /// A pool's rows. Contracts see them as the id of their table and what their seat knows.
 #[derive(Drop)]
 pub struct PoolRows {
-    words: Words,
-    seat: WordSeat,
-    layout: Layout,
+    pub(crate) words: Words,
+    pub(crate) seat: WordSeat,
+    pub(crate) layout: Layout,
     /// The rows of each shard.
-    counts: Vec<usize>,
+    pub(crate) counts: Vec<usize>,
     /// The words that the rows of each shard take.
-    sums: Vec<usize>,
+    pub(crate) sums: Vec<usize>,
 }
 
 impl Model for PoolRows {
@@ -148,6 +150,40 @@ impl PoolRows {
             Ok(place) => Ok(Index(place as u64)),
             Err(far) => self.add(key, hash, shard, at, far),
         }
+    }
+
+    /// Whether two known indices are one, which is whether their keys are.
+    pub fn same_key(&self, i: Index, j: Index) -> bool
+        requires first { IsSome (words_at (known self.now) i) }
+        requires second { IsSome (words_at (known self.now) j) }
+        ensures index { MatchBool result (i ≡ j) (i ≡ j → ⊥) }
+        ensures key { MatchBool result (words_at (known self.now) i ≡ words_at (known self.now) j) (words_at (known self.now) i ≡ words_at (known self.now) j → ⊥) }
+    {
+        let _seat = &self.seat;
+        i.0 == j.0
+    }
+
+    /// A seat that knows as much as the rows, and writes nothing.
+    pub fn split(&mut self) -> RawSeat
+        ensures same { self.new ≡ self.old }
+        ensures of { pool_of result ≡ pool_of self.old }
+        ensures known { known result ≡ known self.old }
+    {
+        RawSeat {
+            seat: copy(&self.words, &self.layout, &mut self.seat),
+        }
+    }
+
+    /// Joins a seat: the rows then know what both knew.
+    pub fn join(&mut self, other: RawSeat)
+        requires { pool_of other ≡ pool_of self.old }
+        ensures rows { GoesOn self.old self.new }
+        ensures grows { Grows (known self.old) (known self.new) }
+        ensures agrees { IsInjective (known self.new) }
+        ensures told { KeepsWords (known other) (known self.new) }
+    {
+        let RawSeat { seat: other } = other;
+        tell(&self.words, &self.layout, &mut self.seat, other);
     }
 
     // Adds a row for a key that has none.

@@ -1,14 +1,14 @@
-use Rattle.std.proofs.Common.{◌≡◌, inl, inr, ℕ, ◌+◌, ◌-◌, ◌<◌, ◌≤◌, List, length, get_or, set, slice_index, refl, sym, ap, ◌∙◌, subst, arith}
+use Rattle.std.proofs.Common.{◌≡◌, ℕ, ◌+◌, ◌-◌, ◌<◌, List, length, get_or, set, slice_index, refl, sym, ap, ◌∙◌, subst, arith}
 use Rattle.std.proofs.lemmas.List.{get_or_read}
 use Rattle.pool_words.specs.declared.view.Layout.{Layout}
 use Rattle.pool_words.specs.declared.view.View.{View}
-use Rattle.pool_words.specs.Layout.{Row, half, start, used, shard_of, rows_of, IsLayout}
-use Rattle.pool_words.specs.Rule.{In, IsPool}
+use Rattle.pool_words.specs.Layout.{Row, used, shard_of, rows_of, IsLayout}
+use Rattle.pool_words.specs.Rule.{In}
 use Rattle.pool_words.proofs.Members.{In-last, rows_of-In}
-use Rattle.pool_words.proofs.Places.{shard_in, half_is}
+use Rattle.pool_words.proofs.Places.{shard_in}
 use Rattle.pool_shard.specs.Looks.{IsPart, IsRows, Touches}
 use Rattle.pool_shard.specs.Pairs.{Rows, IsAtNumbers}
-use Rattle.pool_shard.proofs.Counting.{most_rows, IsRows-adds}
+use Rattle.pool_shard.proofs.Counting.{most_rows, by_rows, by_words, IsRows-adds}
 use Rattle.pool_shard.proofs.rows.PoolRows.add.Goals as goal
 use Rattle.pool_shard.proofs.rows.PoolRows.add.Goals.{then-count-half_of-via-then-count-half_of, then-count-half_of-via-else-count-half_of+then-left-key}
 
@@ -66,12 +66,6 @@ overflow_cast-result c =
 -- full, as the clauses name it
 as_full : (p q : Rows) (z : Layout) (s n : ℕ) → p ≡ q → p.view.layout ≡ z → IsAtNumbers z p.view.log s n → IsAtNumbers q.view.layout q.view.log s n
 as_full p q z s n e f h = subst (λ (r : Rows). IsAtNumbers r.view.layout r.view.log s n) e (subst (λ y. IsAtNumbers y p.view.log s n) (sym f) h)
-
-by_rows : (z : Layout) (v : View) (s n count taken : ℕ) → IsPool z v.words v.log → s < z.shards → IsPart z v s count taken → half z.top ≤ count → IsAtNumbers z v.log s n
-by_rows z v s n count taken p l x h = let m = most_rows z v s p l in let c = x.counted in let e : length (rows_of z s v.log) ≡ half z.top = omega arith in inl (e ∙ half_is z.top)
-
-by_words : (z : Layout) (v : View) (s n count taken left : ℕ) → IsPool z v.words v.log → s < z.shards → IsPart z v s count taken → left ≡ z.size - start z - taken → left < n + 1 → IsAtNumbers z v.log s n
-by_words z v s n count taken left p l x e h = let m = most_rows z v s p l in let c = x.summed in inr (omega arith)
 
 pub returns-then-count-half_of-clause-full : goal.returns-then-count-half_of-clause-full
 returns-then-count-half_of-clause-full c =

@@ -1,16 +1,16 @@
-use Rattle.std.proofs.Common.{◌≡◌, ℕ, ◌∙◌, refl, ap, subst, sym, Some, Result, Ok, Err, IfOk, IfErr, List, slice_index}
+use Rattle.std.proofs.Common.{◌≡◌, ℕ, ◌∙◌, ap, subst, sym, Some, Result, Ok, Err, IfOk, IfErr, slice_index}
 use Rattle.type_form.specs.declared.index.Index.{Index}
 use Rattle.type_form.specs.Known.{words_at}
 use Rattle.type_form.specs.Words.{index_of}
 use Rattle.type_form.specs.Means.{Grows}
 use Rattle.pool_words.specs.declared.view.Layout.{Layout}
 use Rattle.pool_words.specs.declared.view.View.{View}
-use Rattle.pool_words.specs.Layout.{shard_of, rows_of, head, base, IsLayout}
+use Rattle.pool_words.specs.Layout.{shard_of, head, base, IsLayout}
 use Rattle.pool_words.specs.Rule.{In}
-use Rattle.pool_words.proofs.Members.{In-rows_of, rows_of-In, Extends-trans}
+use Rattle.pool_words.proofs.Members.{Extends-trans}
 use Rattle.pool_shard.specs.Looks.{Keeps, HasNot}
 use Rattle.pool_shard.specs.Pairs.{Rows, GoesOn, known, known_of}
-use Rattle.pool_shard.proofs.Keeping.{Keeps-trans}
+use Rattle.pool_shard.proofs.Keeping.{Keeps-trans, still_new}
 use Rattle.pool_shard.proofs.Counting.{IsRows-keeps, GoesOn-seat, GoesOn-of}
 use Rattle.pool_shard.proofs.Knowing.{known_in, pool_known, pool_injective, known_grows}
 use Rattle.pool_shard.proofs.rows.PoolRows.intern.Goals as goal
@@ -41,13 +41,6 @@ add-requires-clause-head c =
     let w = c.probe.new.seat.me.0 in
     let s = c.shard_by-shard.result in
     head_read v w p.layout s c.look-at.result c.base_of-base.result c.look-at.ensures.seat.layout c.probe.ensures.seat.layout c.probe.ensures.keeps (subst (In s) (sym c.look-at.ensures.keeps.writes) (i.owns s c.shard_by-shard.ensures.inside)) c.look-at.ensures.found c.base_of-base.ensures.base
-
--- a key that had no row has none where the rows of its shard stayed
-still_new : (v w : View) (z : Layout) (key : List ℕ) → v.layout ≡ z → Keeps v w → In (shard_of z key) v.writes → HasNot v.log key → HasNot w.log key
-still_new v w z key lv k i none j m =
-    let rows : rows_of z (shard_of z key) w.log ≡ rows_of z (shard_of z key) v.log = subst (λ y. rows_of y (shard_of z key) w.log ≡ rows_of y (shard_of z key) v.log) lv (k.rows (shard_of z key) i) in
-    let a = subst (In (j, key)) rows (In-rows_of z (shard_of z key) (j, key) w.log refl m) in
-    none j (rows_of-In z (shard_of z key) (j, key) v.log a).0
 
 pub add-requires-clause-new : goal.add-requires-clause-new
 add-requires-clause-new c =
