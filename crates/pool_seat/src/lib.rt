@@ -1,13 +1,21 @@
 //! Seats at a pool, through which it is an interner.
 //!
-//! The model: a `SoleSeat` is what its rows know, the list of pairs of index and key, and the
-//! number of its Full answers.
-//! Public calls: `SoleSeat::new`, `into_rows`, and those of the traits `Keys` and `Interner`.
+//! The model: a seat is what it knows, the list of pairs of index and key, and the number of its
+//! Full answers. A `SoleSeat` has a pool's rows alone, a `PoolSeat` is one of many at a shared pool,
+//! and a `Note` is a copy of what a seat knew.
+//! Public calls: `new`, `note`, `meet` and `agree` of both seats, `SoleSeat::into_rows`,
+//! `PoolSeat::into_parts`, `Note::into_seat`, and those of the traits `Keys` and `Interner`.
 //! The crate stands on `pool_shard` and `type_form`.
 #![tactic(auto)]
 
+mod note;
+mod seat;
 mod sole;
 #[cfg(test)]
 mod tests;
+#[cfg(test)]
+mod threads;
 
+pub use note::Note;
+pub use seat::PoolSeat;
 pub use sole::SoleSeat;

@@ -1,11 +1,13 @@
 // The seat that has a pool's rows alone, for one thread.
-ghost use Rattle.std.specs.Prelude.{◌≡◌, ℕ, ◌<◌, ◌≤◌, length, IsSome, IfSome, IfNone, IfOk, IfErr, Some};
+ghost use Rattle.std.specs.Prelude.{◌≡◌, ℕ, ◌<◌, ◌≤◌, length, IsSome, IfSome, IfNone, IfOk, IfErr, MatchBool, Some};
 ghost use Rattle.type_form.specs.Known.{words_at, IsInjective};
+ghost use Rattle.type_form.specs.Known.{Keeps as KeepsWords};
 ghost use Rattle.type_form.specs.Means.{Grows};
 ghost use Rattle.type_form.specs.Counts.{Explains};
-ghost use Rattle.pool_shard.specs.Pairs.{known, GoesOn};
+ghost use Rattle.pool_shard.specs.Pairs.{known, pool_of, GoesOn};
 ghost use Rattle.pool_seat.specs.Seats.{pairs, IsFullFor};
 
+use crate::note::Note;
 use pool_shard::PoolRows;
 use std::marker::Model;
 use type_form::{Index, InternFault, Interner, KeyBuf, Keys};
@@ -42,6 +44,41 @@ impl SoleSeat {
     {
         let SoleSeat { rows, fulls: _ } = self;
         rows
+    }
+
+    /// A copy of what the seat knows. Takes no memory and waits for no thread.
+    pub fn note(&mut self) -> Note
+        ensures same { self.new ≡ self.old }
+        ensures known { known result ≡ pairs self.old }
+        ensures of { pool_of result ≡ pool_of self.old.rows }
+    {
+        Note {
+            seat: self.rows.split(),
+        }
+    }
+
+    /// Adds what another seat of the same pool knew. Takes no memory and waits for no thread.
+    pub fn meet(&mut self, note: Note)
+        requires of { pool_of note ≡ pool_of self.old.rows }
+        ensures grows { Grows (pairs self.old) (pairs self.new) }
+        ensures agrees { IsInjective (pairs self.new) }
+        ensures met { KeepsWords (known note) (pairs self.new) }
+        ensures rows { GoesOn self.old.rows self.new.rows }
+        ensures fulls { self.new.fulls ≡ self.old.fulls }
+    {
+        self.rows.join(note.into_seat());
+    }
+
+    /// Whether a key of this seat's is one of the note's: exactly where their indices are one.
+    pub fn agree(&self, i: Index, note: &Note, j: Index) -> bool
+        requires within { KeepsWords (known note.now) (pairs self.now) }
+        requires here { IsSome (words_at (pairs self.now) i) }
+        requires there { IsSome (words_at (known note.now) j) }
+        ensures index { MatchBool result (i ≡ j) (i ≡ j → ⊥) }
+        ensures key { MatchBool result (words_at (pairs self.now) i ≡ words_at (known note.now) j) (words_at (pairs self.now) i ≡ words_at (known note.now) j → ⊥) }
+    {
+        let _ = note;
+        self.rows.same_key(i, j)
     }
 }
 

@@ -35,3 +35,20 @@ fn interns_until_it_is_full(rt: HostRuntime) -> Result<(), Fail> {
     assert_eq!(rt; rows.find(&[0, 1]), Some(Index(193)));
     Ok(())
 }
+
+#[test]
+fn a_note_agrees_with_its_seat(rt: HostRuntime) -> Result<(), Fail> {
+    let mut seat = SoleSeat::new(PoolRows::open(rt.alloc(), 1, 1024)?);
+    let Ok(one) = seat.intern(&[1]) else {
+        panic!(rt; "no room")
+    };
+    let note = seat.note();
+    assert!(rt; seat.agree(one, &note, one));
+    let Ok(two) = seat.intern(&[2]) else {
+        panic!(rt; "no room")
+    };
+    assert!(rt; !seat.agree(two, &note, one));
+    seat.meet(note);
+    assert_eq!(rt; seat.find(&[2]), Some(two));
+    Ok(())
+}
