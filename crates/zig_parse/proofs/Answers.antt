@@ -12,7 +12,7 @@ use Rattle.zig_tree.specs.declared.tree.Kid.TheVariants as kid
 use Rattle.zig_tree.specs.declared.tree.Node.{Node}
 use Rattle.zig_tree.specs.Kinds.{number_of}
 use Rattle.zig_tree.specs.Grammar.{row, rule_rows}
-use Rattle.zig_tree.specs.GrammarSentences.{Pieces, next_kind, Sentence, Accepted, Begins}
+use Rattle.zig_tree.specs.GrammarSentences.{Pieces, next_kind, Sentence, Accepted, Begins, token_depths}
 use Rattle.zig_parse.specs.declared.choice.Look.{Look}
 use Rattle.zig_parse.specs.declared.thread.Thread.{Thread}
 use Rattle.zig_parse.specs.declared.state.State.{State}
@@ -69,7 +69,7 @@ pub choices_of : (tokens : List Token) (tree : Pieces) → Sentence (kinds_of to
 choices_of tokens tree s =
     let sure = sentence_sure (kinds_of tokens) tree s in
     let path = sure_path (kinds_of tokens) tree sure.0 sure.1 in
-    record { forks = sure.0; sure = sure.1; follows = λ a. survey_follows (low_in tree) (low_step tree) tokens path.0 sure.0 path.1 a }
+    record { forks = sure.0; sure = sure.1; follows = λ a. survey_follows (low_in tree) (low_step tree) (token_depths 0 tree) (λ n h. h) tokens path.0 sure.0 path.1 a }
 
 -- ---- what is accepted
 
@@ -109,7 +109,7 @@ Found P tokens (Err (Unexpected kind at)) = (s : State) × P at s × (at < lengt
 Found P tokens (Err (TooDeep at)) = (s : State) × P at s × (at < length tokens) × (next_verdict (look_at tokens at) at s ≡ verdict.TooDeep)
 Found P tokens (Err OutOfMemory) = Unit {0}
 
-found_at : (P : ℕ → State → Type 0) (tokens : List Token) → ((at : ℕ) (s : State) → at < length tokens → P at s → next_verdict (look_at tokens at) at s ≡ verdict.Fine → P (at + 1) (next_state (look_at tokens at) at s))
+pub found_at : (P : ℕ → State → Type 0) (tokens : List Token) → ((at : ℕ) (s : State) → at < length tokens → P at s → next_verdict (look_at tokens at) at s ≡ verdict.Fine → P (at + 1) (next_state (look_at tokens at) at s))
     → (n at : ℕ) (s : State) (marks : List Bool) → at + n ≡ length tokens → P at s → Found P tokens (surveyed n at tokens s marks)
 unfolding surveyed
 found_at P tokens step zero at s marks e p = (s, subst (λ (n : ℕ). P n s) (omega (arith, e)) p)
@@ -164,7 +164,7 @@ root_ended : (look : Look) (k : TokenKind) → may_follow k (part.Rule rule.Root
 unfolding begun choices matching rule_rows put opened fresh collapses number_of
 root_ended look k h = refl
 
-first_lasts : (look : Look) → Lasts (first_state look).live (first_state look).waiting [] look.kind
+pub first_lasts : (look : Look) → Lasts (first_state look).live (first_state look).waiting [] look.kind
 unfolding first_state begun choices matching rule_rows put opened fresh collapses number_of
 first_lasts look = record {
   before = [];
@@ -298,9 +298,9 @@ no_begin tokens k at h refused (w, tree, s) =
     let number : ◌≡◌ {A = Result (List Bool) SyntaxFault} (Err (Unexpected k at)) (Err (Unexpected k (0 + at))) = ap (λ (i : ℕ). Err (Unexpected k i)) (omega arith) in
     let first = first_look tokens kinds at looks in
     elim first [
-      | inl e ↦ last_run (low_in tree) (low_step tree) path.0 (length kinds) at (length tokens) 0 tokens (first_state (look_of kinds)) (replicate (length tokens) false) [] sure.0 kinds k (started (low_in tree) kinds path.0 sure.0 path.1) (omega arith) looks kind
+      | inl e ↦ last_run (low_in tree) (low_step tree) path.0 (length kinds) at (length tokens) 0 tokens (first_state (look_of kinds)) (replicate (length tokens) false) [] sure.0 kinds k (started (low_in tree) (token_depths 0 tree) (λ n h. h) kinds path.0 sure.0 path.1) (omega arith) looks kind
           (ap (λ (l : Look). surveyed (length tokens) 0 tokens (first_state l) (replicate (length tokens) false)) (sym e) ∙ refused ∙ number)
-      | inr e ↦ last_run (low_in tree) (low_step tree) path.0 (length kinds) at (length tokens) 0 tokens (first_state (look_of kinds)) (replicate (length tokens) false) [] sure.0 kinds k (started (low_in tree) kinds path.0 sure.0 path.1) (omega arith) looks kind
+      | inr e ↦ last_run (low_in tree) (low_step tree) path.0 (length kinds) at (length tokens) 0 tokens (first_state (look_of kinds)) (replicate (length tokens) false) [] sure.0 kinds k (started (low_in tree) (token_depths 0 tree) (λ n h. h) kinds path.0 sure.0 path.1) (omega arith) looks kind
           (ap (λ (l : State). surveyed (length tokens) 0 tokens l (replicate (length tokens) false)) (first_same (look_of kinds) (look_at tokens 0)) ∙ refused ∙ number)
     ]
 

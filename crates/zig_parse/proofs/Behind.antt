@@ -23,11 +23,12 @@ use Rattle.zig_parse.specs.declared.thread.Move.{Move}
 use Rattle.zig_parse.specs.declared.thread.Move.TheVariants as move
 use Rattle.zig_parse.specs.declared.state.State.{State}
 use Rattle.zig_parse.specs.declared.survey.Verdict.TheVariants as verdict
+use Rattle.zig_parse.specs.Stack.{rest}
 use Rattle.zig_parse.specs.Choices.{choices, matching, is_shared, first_parts, taken}
 use Rattle.zig_parse.specs.Moves.{apart_from, move_at, move_from, moves_for_all, moving, moving_by, next_move, readers, reading, reading_by, settled, settled_all, spread, waits_for}
 use Rattle.zig_parse.specs.Threads.{after_read, fresh, has_braces, is_apart, is_braced, met, opened, passed, put, replaced}
 use Rattle.zig_parse.specs.Passes.{after_token, all_deep, any_shallow, any_waits, begun, begun_at, begun_by, begun_for, enclosed, finished, has_read_all, inside, is_among, is_closed, kept_with, least_from, part_choices, resumed_top, those_waiting, verdict_of}
-use Rattle.zig_parse.specs.Surveys.{entered, entered_waiting, is_spared, left, next_live, next_verdict, read_live, read_waiting}
+use Rattle.zig_parse.specs.Surveys.{entered, entered_waiting, is_spared, left, left_waiting, next_live, next_state, next_verdict, read_live, read_waiting}
 use Rattle.zig_parse.proofs.Derived.{each_row}
 use Rattle.zig_parse.proofs.Tables.{same_kind}
 use Rattle.zig_parse.proofs.Costs.{settled_one, settled_nothing, settled_less, total_work}
@@ -416,6 +417,38 @@ same_verdict a b at s e f =
     ∙ ap (λ (l : List Thread). is_kind b.kind kind.Identifier && any_shallow l) (ap (entered a) ready ∙ entered_same a b (settled_all b at s.live) f) in
     ap (λ (x : Bool). verdict_of x (next_live a at s)) spared
     ∙ ap (verdict_of (is_spared b at s)) (left_same a b (read_live a at s) (read_waiting a at s) e ∙ ap (λ (l : List Thread). left b l (read_waiting a at s)) live ∙ ap (left b (read_live b at s)) waiting)
+
+-- so the same state
+pub same_state : (a b : Look) (at : ℕ) (s : State) → a.kind ≡ b.kind → SameChoices a b → next_state a at s ≡ next_state b at s
+unfolding next_state next_live read_live read_waiting settled_all left_waiting is_closed
+same_state a b at s e f =
+    let ready = settled_same (moves_for_all s.live) a b at s.live e f in
+    let live : read_live a at s ≡ read_live b at s = ap (λ (l : List Thread). after_token [] (entered a l)) ready ∙ ap (after_token []) (entered_same a b (settled_all b at s.live) f) in
+    let waiting : read_waiting a at s ≡ read_waiting b at s = ap (λ (l : List Thread). entered_waiting l s.waiting) ready in
+    let lives : next_live a at s ≡ next_live b at s = left_same a b (read_live a at s) (read_waiting a at s) e ∙ ap (λ (l : List Thread). left b l (read_waiting a at s)) live ∙ ap (left b (read_live b at s)) waiting in
+    let waits : left_waiting a (read_live a at s) (read_waiting a at s) ≡ left_waiting b (read_live b at s) (read_waiting b at s) =
+    ap (λ (k : TokenKind). if is_kind k kind.RightBrace && has_read_all (read_live a at s) then rest (read_waiting a at s) else read_waiting a at s) e
+    ∙ ap (λ (l : List Thread). left_waiting b l (read_waiting a at s)) live ∙ ap (left_waiting b (read_live b at s)) waiting in
+    rw (waits, lives) refl
+
+-- and where the token behind is a colon for both or for none
+label_holds : (k x y : TokenKind) (w : When) → is_kind x kind.Colon ≡ is_kind y kind.Colon → holds k x w ≡ holds k y w
+label_holds k x y when.Label e = ap (λ (b : Bool). is_kind k kind.Identifier && b) e
+label_holds k x y when.Always e = refl
+label_holds k x y (when.Is _) e = refl
+label_holds k x y (when.In _) e = refl
+label_holds k x y (when.Both _) e = refl
+
+agree_colon : (k x y : TokenKind) (rows : List Alternative) → is_kind x kind.Colon ≡ is_kind y kind.Colon → Agree (record { kind = k; next = x }) (record { kind = k; next = y }) rows
+agree_colon k x y [] e = agree_none
+agree_colon k x y (r ∷ rows) e = agree_more r rows (label_holds k x y r.at e) (agree_colon k x y rows e)
+
+pub colon_state : (k x y : TokenKind) (at : ℕ) (s : State) → is_kind x kind.Colon ≡ is_kind y kind.Colon → next_state (record { kind = k; next = x }) at s ≡ next_state (record { kind = k; next = y }) at s
+colon_state k x y at s e =
+    same_state (record { kind = k; next = x }) (record { kind = k; next = y }) at s refl (λ rows. choices_agree (record { kind = k; next = x }) (record { kind = k; next = y }) rows (agree_colon k x y rows e))
+
+pub other_state : (a b : Look) (at : ℕ) (s : State) → a.kind ≡ b.kind → is_kind a.kind kind.Identifier ≡ false → next_state a at s ≡ next_state b at s
+other_state a b at s e h = same_state a b at s e (λ rows. choices_agree a b rows (agree_other a b rows e h))
 
 pub last_look : (a b : Look) (at : ℕ) (s : State) → a.kind ≡ b.kind → is_kind a.kind kind.Identifier ≡ false → next_verdict a at s ≡ next_verdict b at s
 last_look a b at s e h = same_verdict a b at s e (λ rows. choices_agree a b rows (agree_other a b rows e h))

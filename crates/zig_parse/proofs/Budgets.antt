@@ -1,5 +1,5 @@
--- A thread of the file itself that isn't marked as deep: its depth is the number of its nodes, and none of them
--- has more nodes below it than the limit leaves.
+-- A thread that isn't marked as deep: its depth is the number of its nodes, with that of the node around what it
+-- reads, and none of them has more nodes below it than the limit leaves.
 use Rattle.std.proofs.Common.{◌≡◌, ℕ, ◌+◌, ◌-◌, ◌*◌, ◌<◌, ◌≤◌, Bool, true, false, ◌||◌, ◌⊎◌, inl, inr, List, [], ◌∷◌, ◌++◌, map, length, Some, None, refl, sym, ◌∙◌, ap, subst, arith}
 use Rattle.std.specs.Prelude.{if◌then◌else◌, nat_lt, not, min, max, ◌^◌, ◌&&◌}
 use Rattle.std.proofs.lemmas.Bool.{and_parts, ltb-true, ltb-false, le-ltb}
@@ -28,10 +28,10 @@ use Rattle.zig_parse.proofs.Moving.{Each, spread_each}
 
 -- ---- what is kept
 
--- open nodes, the innermost of them at this depth
-abbrev pub Within : ℕ → List Frame → Type 0
-Within depth [] = depth ≡ 0
-Within depth (f ∷ fs) = (f.height ≤ 200 - depth) × (count f.solid ≤ depth) × Within (depth - count f.solid) fs
+-- open nodes in a node of some depth, the innermost of them at this one
+abbrev pub Within : ℕ → ℕ → List Frame → Type 0
+Within base depth [] = depth ≡ base
+Within base depth (f ∷ fs) = (f.height ≤ 200 - depth) × (count f.solid ≤ depth) × Within base (depth - count f.solid) fs
 
 -- nodes were opened at this token: what comes first costs no more than the limit leaves
 pub record Opened (t : Thread) : Type 0 where
@@ -42,47 +42,47 @@ pub record Opened (t : Thread) : Type 0 where
   pub fits : t.depth + 2 * front_cost ps ≤ 260
 
 -- a thread that waits, one between two tokens, and one at a token
-abbrev pub Held : Thread → Type 0
-Held t = t.deep ≡ false → Within t.depth t.frames
+abbrev pub Held : ℕ → Thread → Type 0
+Held base t = t.deep ≡ false → Within base t.depth t.frames
 
-abbrev pub Rested : Thread → Type 0
-Rested t = t.deep ≡ false → (t.depth ≤ 200) × Within t.depth t.frames
+abbrev pub Rested : ℕ → Thread → Type 0
+Rested base t = t.deep ≡ false → (t.depth ≤ 200) × Within base t.depth t.frames
 
-abbrev pub Moved : Thread → Type 0
-Moved t = t.deep ≡ false → Within t.depth t.frames × ((t.depth ≤ 200) ⊎ Opened t)
+abbrev pub Moved : ℕ → Thread → Type 0
+Moved base t = t.deep ≡ false → Within base t.depth t.frames × ((t.depth ≤ 200) ⊎ Opened t)
 
 -- ---- a node is closed
 
-gained_within : (depth h : ℕ) (fs : List Frame) → h ≤ 200 - depth → Within depth fs → Within depth (gained h fs)
-gained_within depth h [] l w = w
-gained_within depth h (f ∷ fs) l w = (omega (arith, w.0), w.1, w.2)
+gained_within : (base depth h : ℕ) (fs : List Frame) → h ≤ 200 - depth → Within base depth fs → Within base depth (gained h fs)
+gained_within base depth h [] l w = w
+gained_within base depth h (f ∷ fs) l w = (omega (arith, w.0), w.1, w.2)
 
-closed_within : (depth : ℕ) (f : Frame) (fs : List Frame) → depth ≤ 200 → Within depth (f ∷ fs) → Within (depth - count f.solid) (gained (part_height f) fs)
-closed_within depth f fs d w = gained_within (depth - count f.solid) (part_height f) fs (by f.solid w.0 w.1) w.2
+closed_within : (base depth : ℕ) (f : Frame) (fs : List Frame) → depth ≤ 200 → Within base depth (f ∷ fs) → Within base (depth - count f.solid) (gained (part_height f) fs)
+closed_within base depth f fs d w = gained_within base (depth - count f.solid) (part_height f) fs (by f.solid w.0 w.1) w.2
   where
     by : (b : Bool) → f.height ≤ 200 - depth → count b ≤ depth → (if b then one_more f.height else f.height) ≤ 200 - (depth - count b)
     by true h c = omega arith
     by false h c = omega arith
 
-less_one : (b : Bool) (d : ℕ) → (if b then d - 1 else d) ≡ d - count b
+pub less_one : (b : Bool) (d : ℕ) → (if b then d - 1 else d) ≡ d - count b
 less_one true d = refl
 less_one false d = omega arith
 
-closed_by : (t : Thread) (fs : List Frame) → t.frames ≡ fs → t.depth ≤ 200 → Within t.depth fs → ((closed_from t fs).depth ≤ 200) × Within (closed_from t fs).depth (closed_from t fs).frames
-closed_by t [] e d w = (d, subst (Within t.depth) (sym e) w)
-closed_by t (f ∷ fs) e d w =
+closed_by : (base : ℕ) (t : Thread) (fs : List Frame) → t.frames ≡ fs → t.depth ≤ 200 → Within base t.depth fs → ((closed_from t fs).depth ≤ 200) × Within base (closed_from t fs).depth (closed_from t fs).frames
+closed_by base t [] e d w = (d, subst (Within base t.depth) (sym e) w)
+closed_by base t (f ∷ fs) e d w =
     let one = less_one f.solid t.depth in
-    (omega (arith, one), subst (λ (n : ℕ). Within n (gained (part_height f) fs)) (sym one) (closed_within t.depth f fs d w))
+    (omega (arith, one), subst (λ (n : ℕ). Within base n (gained (part_height f) fs)) (sym one) (closed_within base t.depth f fs d w))
 
 closed_deep : (t : Thread) (fs : List Frame) → (closed_from t fs).deep ≡ t.deep
 closed_deep t [] = refl
 closed_deep t (f ∷ fs) = refl
 
-closed_moved : (t : Thread) → (t.deep ≡ false → (t.depth ≤ 200) × Within t.depth t.frames) → Moved (closed t)
+closed_moved : (base : ℕ) (t : Thread) → (t.deep ≡ false → (t.depth ≤ 200) × Within base t.depth t.frames) → Moved base (closed t)
 unfolding closed
-closed_moved t h d =
+closed_moved base t h d =
     let now = h (sym (closed_deep t t.frames) ∙ d) in
-    let c = closed_by t t.frames refl now.0 now.1 in
+    let c = closed_by base t t.frames refl now.0 now.1 in
     (c.1, inl c.0)
 
 -- ---- a node is made one
@@ -100,76 +100,76 @@ unfolding is_deep
 not_deep depth height h = let l = ltb-false 200 (min (depth + height) (2 ^ 32 - 1)) h in omega (arith, l)
 
 -- what is known once the innermost node is one
-record Hard (t u : Thread) : Type 0 where
-  within : Within u.depth u.frames
+record Hard (base : ℕ) (t u : Thread) : Type 0 where
+  within : Within base u.depth u.frames
   room : u.depth ≤ 200
   deeper : u.depth ≡ t.depth + 1
   shallow : t.deep ≡ false
 
-hard_within : (f : Frame) (t : Thread) (fs : List Frame) → t.frames ≡ f ∷ fs → f.solid ≡ false → Held t → (hardened f t).deep ≡ false → Hard t (hardened f t)
+hard_within : (base : ℕ) (f : Frame) (t : Thread) (fs : List Frame) → t.frames ≡ f ∷ fs → f.solid ≡ false → Held base t → (hardened f t).deep ≡ false → Hard base t (hardened f t)
 unfolding hardened
-hard_within f t fs e s h d =
+hard_within base f t fs e s h d =
     let shallow = or_left t.deep (is_deep (one_more t.depth) f.height) d in
     let room = not_deep (one_more t.depth) f.height (or_right t.deep (is_deep (one_more t.depth) f.height) d) in
-    let w : Within t.depth (f ∷ fs) = subst (Within t.depth) e (h shallow) in
+    let w : Within base t.depth (f ∷ fs) = subst (Within base t.depth) e (h shallow) in
     let more : one_more t.depth ≡ t.depth + 1 = omega (arith, room) in
     let back : t.depth - count f.solid ≡ one_more t.depth - 1 = (let z = ap count s in omega (arith, z, more)) in
     let node : Frame = record f { solid = true } in
-    let now : Within (one_more t.depth) (node ∷ fs) = (omega (arith, room), omega (arith, more), subst (λ (n : ℕ). Within n fs) back w.2) in
+    let now : Within base (one_more t.depth) (node ∷ fs) = (omega (arith, room), omega (arith, more), subst (λ (n : ℕ). Within base n fs) back w.2) in
     record {
-      within = subst (Within (one_more t.depth)) (sym (ap (with_first node) e)) now;
+      within = subst (Within base (one_more t.depth)) (sym (ap (with_first node) e)) now;
       room = omega (arith, room);
       deeper = more;
       shallow = shallow;
     }
 
 -- where a rule begins
-record Meets (t u : Thread) : Type 0 where
-  within : Within u.depth u.frames
+record Meets (base : ℕ) (t u : Thread) : Type 0 where
+  within : Within base u.depth u.frames
   deeper : u.depth ≤ t.depth + 1
   shallow : t.deep ≡ false
 
-met_within : (r : Rule) (t : Thread) (fs : List Frame) → t.frames ≡ fs → Held t → (met_from r t fs).deep ≡ false → Meets t (met_from r t fs)
-met_within r t [] e h d = record { within = h d; deeper = omega arith; shallow = d }
-met_within r t (f ∷ fs) e h d0 = by f.solid refl (nat_lt 0 f.parts || is_never_alone r) d0
+met_within : (base : ℕ) (r : Rule) (t : Thread) (fs : List Frame) → t.frames ≡ fs → Held base t → (met_from r t fs).deep ≡ false → Meets base t (met_from r t fs)
+met_within base r t [] e h d = record { within = h d; deeper = omega arith; shallow = d }
+met_within base r t (f ∷ fs) e h d0 = by f.solid refl (nat_lt 0 f.parts || is_never_alone r) d0
   where
-    by : (x : Bool) → f.solid ≡ x → (y : Bool) → (if not x && y then hardened f t else t).deep ≡ false → Meets t (if not x && y then hardened f t else t)
+    by : (x : Bool) → f.solid ≡ x → (y : Bool) → (if not x && y then hardened f t else t).deep ≡ false → Meets base t (if not x && y then hardened f t else t)
     by true s y d = record { within = h d; deeper = omega arith; shallow = d }
     by false s false d = record { within = h d; deeper = omega arith; shallow = d }
-    by false s true d = (let hard = hard_within f t fs e s h d in record { within = hard.within; deeper = omega (arith, hard.deeper); shallow = hard.shallow })
+    by false s true d = (let hard = hard_within base f t fs e s h d in record { within = hard.within; deeper = omega (arith, hard.deeper); shallow = hard.shallow })
 
 -- ---- a token is read
 
-gain_within : (t : Thread) → (t.depth ≤ 200) × Within t.depth t.frames → ((with_gain 0 t).depth ≤ 200) × Within (with_gain 0 t).depth (with_gain 0 t).frames
-gain_within t (d, w) = (d, gained_within t.depth 0 t.frames (omega arith) w)
+gain_within : (base : ℕ) (t : Thread) → (t.depth ≤ 200) × Within base t.depth t.frames → ((with_gain 0 t).depth ≤ 200) × Within base (with_gain 0 t).depth (with_gain 0 t).frames
+gain_within base t (d, w) = (d, gained_within base t.depth 0 t.frames (omega arith) w)
 
-touched_within : (t : Thread) (fs : List Frame) → t.frames ≡ fs → Held t → (touched_from t fs).deep ≡ false → ((touched_from t fs).depth ≤ 200) × Within (touched_from t fs).depth (touched_from t fs).frames
-touched_within t [] e h d = let w = h d in (let none : t.depth ≡ 0 = subst (Within t.depth) e w in omega (arith, none), w)
-touched_within t (f ∷ fs) e h d0 = by f.solid refl d0
+touched_within : (base : ℕ) → base ≤ 200 → (t : Thread) (fs : List Frame) → t.frames ≡ fs → Held base t → (touched_from t fs).deep ≡ false → ((touched_from t fs).depth ≤ 200) × Within base (touched_from t fs).depth (touched_from t fs).frames
+touched_within base low t [] e h d = let w = h d in (let none : t.depth ≡ base = subst (Within base t.depth) e w in omega (arith, none), w)
+touched_within base low t (f ∷ fs) e h d0 = by f.solid refl d0
   where
     by : (x : Bool) → f.solid ≡ x → (if x then record t { deep = t.deep || is_deep t.depth 0 } else hardened f t).deep ≡ false
-        → ((if x then record t { deep = t.deep || is_deep t.depth 0 } else hardened f t).depth ≤ 200) × Within (if x then record t { deep = t.deep || is_deep t.depth 0 } else hardened f t).depth (if x then record t { deep = t.deep || is_deep t.depth 0 } else hardened f t).frames
+        → ((if x then record t { deep = t.deep || is_deep t.depth 0 } else hardened f t).depth ≤ 200) × Within base (if x then record t { deep = t.deep || is_deep t.depth 0 } else hardened f t).depth (if x then record t { deep = t.deep || is_deep t.depth 0 } else hardened f t).frames
     by true s d = (omega (arith, not_deep t.depth 0 (or_right t.deep (is_deep t.depth 0) d)), h (or_left t.deep (is_deep t.depth 0) d))
-    by false s d = (let hard = hard_within f t fs e s h d in (hard.room, hard.within))
+    by false s d = (let hard = hard_within base f t fs e s h d in (hard.room, hard.within))
 
-pub read_rested : (t : Thread) → Moved t → Rested (after_read t)
+pub read_rested : (base : ℕ) → base ≤ 200 → (t : Thread) → Moved base t → Rested base (after_read t)
 unfolding after_read
-read_rested t h d = gain_within (touched_from (passed t) t.frames) (touched_within (passed t) t.frames refl (λ e. (h e).0) d)
+read_rested base low t h d = gain_within base (touched_from (passed t) t.frames) (touched_within base low (passed t) t.frames refl (λ e. (h e).0) d)
 
 -- what stands in braces is there
-pub received_rested : (height : ℕ) (choices : List ℕ) (t : Thread) → Held t → Rested (with_choices choices (received height t))
+pub received_rested : (base height : ℕ) (choices : List ℕ) (t : Thread) → Held base t → Rested base (with_choices choices (received height t))
 unfolding received
-received_rested height choices t h d =
+received_rested base height choices t h d =
     let room = not_deep t.depth height (or_right t.deep (is_deep t.depth height) d) in
-    (omega (arith, room), gained_within t.depth height t.frames (omega (arith, room)) (h (or_left t.deep (is_deep t.depth height) d)))
+    (omega (arith, room), gained_within base t.depth height t.frames (omega (arith, room)) (h (or_left t.deep (is_deep t.depth height) d)))
 
 -- a thread waits
-pub met_held : (p : Part) (t : Thread) → Moved t → Held (met_part p t)
+pub met_held : (base : ℕ) (p : Part) (t : Thread) → Moved base t → Held base (met_part p t)
 unfolding met
-met_held (part.Rule r) t h d = (met_within r t t.frames refl (λ e. (h e).0) d).within
-met_held (part.Group g) t h d = (h d).0
-met_held (part.Token k) t h d = (h d).0
-met_held (part.OneOf c) t h d = (h d).0
+met_held base (part.Rule r) t h d = (met_within base r t t.frames refl (λ e. (h e).0) d).within
+met_held base (part.Group g) t h d = (h d).0
+met_held base (part.Token k) t h d = (h d).0
+met_held base (part.OneOf c) t h d = (h d).0
 
 -- ---- parts in front
 
@@ -229,17 +229,17 @@ opened_depth : (b : Bool) (d e : ℕ) → d ≤ e + 1 → (if b then d else one_
 opened_depth true d e h = omega arith
 opened_depth false d e h = omega arith
 
-opened_within : (b : Bool) (d : ℕ) (fs : List Frame) → d ≤ 300 → Within d fs → (count (not b) ≤ (if b then d else one_more d)) × Within ((if b then d else one_more d) - count (not b)) fs
-opened_within true d fs l w = (omega arith, subst (λ (n : ℕ). Within n fs) (let e : d ≡ d - 0 = omega arith in e) w)
-opened_within false d fs l w = (omega arith, subst (λ (n : ℕ). Within n fs) (let e : d ≡ one_more d - 1 = omega arith in e) w)
+opened_within : (base : ℕ) (b : Bool) (d : ℕ) (fs : List Frame) → d ≤ 300 → Within base d fs → (count (not b) ≤ (if b then d else one_more d)) × Within base ((if b then d else one_more d) - count (not b)) fs
+opened_within base true d fs l w = (omega arith, subst (λ (n : ℕ). Within base n fs) (let e : d ≡ d - 0 = omega arith in e) w)
+opened_within base false d fs l w = (omega arith, subst (λ (n : ℕ). Within base n fs) (let e : d ≡ one_more d - 1 = omega arith in e) w)
 
-rule_moved : (look : Look) (t : Thread) (r : Rule) (ps : List Part) → (f : IsFront (length t.frames) t.items (part.Rule r)) → has_some ps ≡ true → front_cost ps < cost_of_rule r → Moved t → Moved (replaced (Some r) ps t)
+rule_moved : (base : ℕ) (look : Look) (t : Thread) (r : Rule) (ps : List Part) → (f : IsFront (length t.frames) t.items (part.Rule r)) → has_some ps ≡ true → front_cost ps < cost_of_rule r → Moved base t → Moved base (replaced (Some r) ps t)
 unfolding replaced put opened met
-rule_moved look t r ps f some less h d =
+rule_moved base look t r ps f some less h d =
     let u = met_from r (passed t) t.frames in
-    let m = met_within r (passed t) t.frames refl (λ e. (h e).0) d in
+    let m = met_within base r (passed t) t.frames refl (λ e. (h e).0) d in
     let room = rule_room look t r f (h m.shallow).1 in
-    let below = opened_within (collapses r) u.depth u.frames (omega (arith, m.deeper)) m.within in (
+    let below = opened_within base (collapses r) u.depth u.frames (omega (arith, m.deeper)) m.within in (
       (omega arith, below.0, below.1),
       inr (record {
         ps = ps;
@@ -286,9 +286,9 @@ group_opened look t g ps f less fits o = by o.ps o.items o.some o.fits
           fits = omega (arith, all, cost, room);
         })
 
-group_moved : (look : Look) (t : Thread) (g : Group) (ps : List Part) → (f : IsFront (length t.frames) t.items (part.Group g)) → front_cost ps < cost_of (part.Group g) → (has_some ps || may_be_empty g) ≡ true → Moved t → Moved (replaced None ps t)
+group_moved : (base : ℕ) (look : Look) (t : Thread) (g : Group) (ps : List Part) → (f : IsFront (length t.frames) t.items (part.Group g)) → front_cost ps < cost_of (part.Group g) → (has_some ps || may_be_empty g) ≡ true → Moved base t → Moved base (replaced None ps t)
 unfolding replaced put
-group_moved look t g ps f less fits h d =
+group_moved base look t g ps f less fits h d =
     let now = h d in (
       now.0,
       elim now.1 [
@@ -312,8 +312,8 @@ opened_closes look t h o = by o.ps o.items o.some
     by (p ∷ ps) e s = part_not_close look true p (level (length t.frames) p (map (item (length t.frames)) ps ++ o.later) (sym (ap (move_from look true (length t.frames)) e) ∙ h))
 
 -- a choice of the thread's own changes nothing
-choice_moved : (at : ℕ) (t : Thread) → Moved t → Moved (at_choice at t)
-choice_moved at t h d =
+choice_moved : (base at : ℕ) (t : Thread) → Moved base t → Moved base (at_choice at t)
+choice_moved base at t h d =
     let now = h d in (
       now.0,
       elim now.1 [
@@ -325,46 +325,46 @@ choice_moved at t h d =
 choices_at : (look : Look) (rows : List Alternative) → choices look rows ≡ parts_in (open_at (look.kind ∷ look.next ∷ []) rows)
 choices_at look rows = choices_as (look.kind ∷ look.next ∷ []) rows
 
-moving_by_moved : (look : Look) (at : ℕ) (t : Thread) (m : Move) → next_move look true t ≡ m → Moved t → Each Moved (moving_by look at t m)
+moving_by_moved : (base : ℕ) (look : Look) (at : ℕ) (t : Thread) (m : Move) → next_move look true t ≡ m → Moved base t → Each (Moved base) (moving_by look at t m)
 unfolding next_move
-moving_by_moved look at t move.Stop h k = tt
-moving_by_moved look at t move.Read h k = tt
-moving_by_moved look at t move.Close h k =
-    (closed_moved t (λ d. (let now = k d in (elim now.1 [ inl room ↦ room | inr o ↦ absurd (opened_closes look t h o) ], now.0))), tt)
-moving_by_moved look at t (move.Rule r) h k =
+moving_by_moved base look at t move.Stop h k = tt
+moving_by_moved base look at t move.Read h k = tt
+moving_by_moved base look at t move.Close h k =
+    (closed_moved base t (λ d. (let now = k d in (elim now.1 [ inl room ↦ room | inr o ↦ absurd (opened_closes look t h o) ], now.0))), tt)
+moving_by_moved base look at t (move.Rule r) h k =
     let f = rule_front look true (length t.frames) t.items r h in
     let rows = open_at (look.kind ∷ look.next ∷ []) (rule_rows r) in
-    subst (λ (l : List (List Part)). Each Moved (spread at (Some r) l t)) (sym (choices_at look (rule_rows r)))
-    (spread_each Moved at (Some r) rows t (λ a m.
+    subst (λ (l : List (List Part)). Each (Moved base) (spread at (Some r) l t)) (sym (choices_at look (rule_rows r)))
+    (spread_each (Moved base) at (Some r) rows t (λ a m.
     (let fits = among_fits (cost_of_rule r) false a (rule_rows r) (open_is_row (look.kind ∷ look.next ∷ []) a (rule_rows r) m) (rule_costs r) in
     let s = and_parts (nat_lt (front_cost a.parts) (cost_of_rule r)) (has_some a.parts || false) fits in
     let less = ltb-true (front_cost a.parts) (cost_of_rule r) s.0 in
     let some = or_yes (has_some a.parts) s.1 in
-    (rule_moved look t r a.parts f some less k, rule_moved look (at_choice at t) r a.parts f some less (choice_moved at t k)))))
-moving_by_moved look at t (move.Group g) h k =
+    (rule_moved base look t r a.parts f some less k, rule_moved base look (at_choice at t) r a.parts f some less (choice_moved base at t k)))))
+moving_by_moved base look at t (move.Group g) h k =
     let f = group_front_at look true (length t.frames) t.items g h in
     let rows = open_at (look.kind ∷ look.next ∷ []) (group_rows g) in
-    subst (λ (l : List (List Part)). Each Moved (spread at None l t)) (sym (choices_at look (group_rows g)))
-    (spread_each Moved at None rows t (λ a m.
+    subst (λ (l : List (List Part)). Each (Moved base) (spread at None l t)) (sym (choices_at look (group_rows g)))
+    (spread_each (Moved base) at None rows t (λ a m.
     (let fits = among_fits (cost_of (part.Group g)) (may_be_empty g) a (group_rows g) (open_is_row (look.kind ∷ look.next ∷ []) a (group_rows g) m) (group_costs g) in
     let s = and_parts (nat_lt (front_cost a.parts) (cost_of (part.Group g))) (has_some a.parts || may_be_empty g) fits in
     let less = ltb-true (front_cost a.parts) (cost_of (part.Group g)) s.0 in
-    (group_moved look t g a.parts f less s.1 k, group_moved look (at_choice at t) g a.parts f less s.1 (choice_moved at t k)))))
+    (group_moved base look t g a.parts f less s.1 k, group_moved base look (at_choice at t) g a.parts f less s.1 (choice_moved base at t k)))))
 
-pub moving_moved : (look : Look) (at : ℕ) (t : Thread) → Moved t → Each Moved (moving look at t)
+pub moving_moved : (base : ℕ) (look : Look) (at : ℕ) (t : Thread) → Moved base t → Each (Moved base) (moving look at t)
 unfolding moving
-moving_moved look at t k = moving_by_moved look at t (next_move look true t) refl k
+moving_moved base look at t k = moving_by_moved base look at t (next_move look true t) refl k
 
 -- ---- nodes are closed in the end
 
-risen_low : (fs : List Frame) (h depth : ℕ) → depth + h ≤ 200 → Within depth fs → risen h fs ≤ 200
+risen_low : (base : ℕ) (fs : List Frame) (h depth : ℕ) → depth + h ≤ 200 → Within base depth fs → risen h fs ≤ 200
 unfolding risen
-risen_low [] h depth l w = omega arith
-risen_low (f ∷ fs) h depth l w = risen_low fs (part_height (with_part h f)) (depth - count f.solid) (by f.solid w.0 w.1) w.2
+risen_low base [] h depth l w = omega arith
+risen_low base (f ∷ fs) h depth l w = risen_low base fs (part_height (with_part h f)) (depth - count f.solid) (by f.solid w.0 w.1) w.2
   where
     by : (b : Bool) → f.height ≤ 200 - depth → count b ≤ depth → depth - count b + (if b then one_more (max f.height h) else max f.height h) ≤ 200
     by true i c = omega arith
     by false i c = omega arith
 
-pub rested_low : (t : Thread) → Rested t → t.deep ≡ false → risen 0 t.frames ≤ 200
-rested_low t h d = let now = h d in risen_low t.frames 0 t.depth (omega (arith, now.0)) now.1
+pub rested_low : (base : ℕ) (t : Thread) → Rested base t → t.deep ≡ false → risen 0 t.frames ≤ 200
+rested_low base t h d = let now = h d in risen_low base t.frames 0 t.depth (omega (arith, now.0)) now.1

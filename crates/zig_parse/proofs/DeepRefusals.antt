@@ -4,7 +4,6 @@ use Rattle.std.proofs.Common.{◌≡◌, ℕ, zero, suc, ◌+◌, ◌<◌, ◌�
 use Rattle.std.specs.Prelude.{replicate, ◌^◌}
 use Rattle.zig_tree.specs.declared.token.Token.{Token}
 use Rattle.zig_tree.specs.declared.token.TokenKind.{TokenKind}
-use Rattle.zig_tree.specs.Grammar.{rule_rows}
 use Rattle.zig_tree.specs.GrammarSentences.{Pieces, height, token_depths, AreShallow, Sentence, Accepted, Begins, BeginsShallow}
 use Rattle.zig_parse.specs.declared.choice.Look.{Look}
 use Rattle.zig_parse.specs.declared.thread.Thread.{Thread}
@@ -13,9 +12,6 @@ use Rattle.zig_parse.specs.declared.survey.Verdict.{Verdict}
 use Rattle.zig_parse.specs.declared.survey.Verdict.TheVariants as verdict
 use Rattle.zig_parse.specs.declared.fault.SyntaxFault.{SyntaxFault}
 use Rattle.zig_parse.specs.declared.fault.SyntaxFault.TheVariants.{Unexpected, TooDeep, OutOfMemory}
-use Rattle.zig_parse.specs.Choices.{choices, matching}
-use Rattle.zig_parse.specs.Threads.{collapses, fresh, opened, put}
-use Rattle.zig_parse.specs.Passes.{begun}
 use Rattle.zig_parse.specs.Growth.{grown_from}
 use Rattle.zig_parse.specs.Surveys.{first_state, is_spared, judged, look_at, next_live, next_marks, next_state, next_verdict, surveyed}
 use Rattle.zig_parse.specs.Trees.{IsEnded, NoneShallow, kinds_of}
@@ -26,7 +22,8 @@ use Rattle.zig_parse.proofs.Paths.{look_of}
 use Rattle.zig_parse.proofs.SurePaths.{low_in, sure_path}
 use Rattle.zig_parse.proofs.Settling.{chosen_with}
 use Rattle.zig_parse.proofs.Following.{Looks, alone_path, common_looks, looks_here, looks_next, refused_from, started, state_live, step_path, whole_looks}
-use Rattle.zig_parse.proofs.BudgetSteps.{Calm, accepted_low}
+use Rattle.zig_parse.proofs.BudgetSteps.{accepted_low}
+use Rattle.zig_parse.proofs.Grounds.{first_grounds}
 use Rattle.zig_parse.proofs.Tracking.{Tracked}
 use Rattle.zig_parse.proofs.Spared.{last_fine}
 use Rattle.zig_parse.proofs.Answers.{Left, common_front, common_next, first_found, first_look, first_same, found_where, front_length, kind_here, kinds_length, low_step, survey_of, survey_refused}
@@ -106,9 +103,9 @@ deep_no tokens at w tree h refused s shallow last =
     let low : low_in tree (0 + at + 1) = subst (low_in tree) (let e : length front ≡ 0 + at + 1 = omega (arith, taken) in e) shallow in
     let at_number : ◌≡◌ {A = Result (List Bool) SyntaxFault} (Err (TooDeep at)) (Err (TooDeep (0 + at))) = ap (λ (i : ℕ). Err (TooDeep i)) (sym number) in
     elim (first_look tokens kinds at looks) [
-      | inl e ↦ deep_run (low_in tree) (low_step tree) path.0 (length kinds) at (length tokens) 0 tokens (first_state (look_of kinds)) (replicate (length tokens) false) [] sure.0 kinds (started (low_in tree) kinds path.0 sure.0 path.1) (omega arith) looks reads low
+      | inl e ↦ deep_run (low_in tree) (low_step tree) path.0 (length kinds) at (length tokens) 0 tokens (first_state (look_of kinds)) (replicate (length tokens) false) [] sure.0 kinds (started (low_in tree) (token_depths 0 tree) (λ n h. h) kinds path.0 sure.0 path.1) (omega arith) looks reads low
           (ap (λ (l : Look). surveyed (length tokens) 0 tokens (first_state l) (replicate (length tokens) false)) (sym e) ∙ refused ∙ at_number)
-      | inr e ↦ deep_run (low_in tree) (low_step tree) path.0 (length kinds) at (length tokens) 0 tokens (first_state (look_of kinds)) (replicate (length tokens) false) [] sure.0 kinds (started (low_in tree) kinds path.0 sure.0 path.1) (omega arith) looks reads low
+      | inr e ↦ deep_run (low_in tree) (low_step tree) path.0 (length kinds) at (length tokens) 0 tokens (first_state (look_of kinds)) (replicate (length tokens) false) [] sure.0 kinds (started (low_in tree) (token_depths 0 tree) (λ n h. h) kinds path.0 sure.0 path.1) (omega arith) looks reads low
           (ap (λ (l : State). surveyed (length tokens) 0 tokens l (replicate (length tokens) false)) (first_same (look_of kinds) (look_at tokens 0)) ∙ refused ∙ at_number)
     ]
 
@@ -132,10 +129,6 @@ none_begins tokens at h refused (w, tree, s, shallow) = deep_no tokens at w tree
 
 -- ---- the second pass
 
-first_calm : (look : Look) → Calm (first_state look).live (first_state look).waiting
-unfolding first_state begun choices matching rule_rows put opened fresh collapses
-first_calm look = record { rested = (λ goal d. (omega arith, (omega arith, omega arith, refl)), tt); held = tt }
-
 -- the tree of tokens that the first pass accepts has no more than 200 nodes one in the other
 sentence_low : (tokens : List Token) (marks : List Bool) (tree : Pieces) → survey_of tokens ≡ Ok marks → Sentence (kinds_of tokens) tree → height tree ≤ 200
 sentence_low tokens marks tree found s =
@@ -144,8 +137,8 @@ sentence_low tokens marks tree found s =
     let sure = sentence_sure kinds tree s in
     let path = sure_path kinds tree sure.0 sure.1 in
     let first : look_at tokens 0 ≡ look_of kinds = look_here tokens 0 in
-    let small = accepted_low (low_in tree) (low_step tree) path.0 (length kinds) n 0 tokens (first_state (look_of kinds)) (replicate n false) marks [] sure.0 kinds (started (low_in tree) kinds path.0 sure.0 path.1) (kinds_length tokens) (whole_looks tokens n)
-    (ap (λ (l : Look). surveyed n 0 tokens (first_state l) (replicate n false)) (sym first) ∙ found) (first_calm (look_of kinds)) in
+    let small = accepted_low (low_in tree) (low_step tree) path.0 (length kinds) n 0 tokens (first_state (look_of kinds)) (replicate n false) marks [] sure.0 kinds (started (low_in tree) (token_depths 0 tree) (λ n h. h) kinds path.0 sure.0 path.1) (kinds_length tokens) (whole_looks tokens n)
+    (ap (λ (l : Look). surveyed n 0 tokens (first_state l) (replicate n false)) (sym first) ∙ found) (first_grounds (look_of kinds)) in
     omega (arith, small, path.2)
 
 -- so it refuses none of them

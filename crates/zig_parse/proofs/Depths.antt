@@ -69,13 +69,13 @@ derived_full ps tokens next p (derives_rule r a more _ mid _ inside later m d e)
 
 -- ---- their depths
 
-depths_length : (depth : ℕ) (p : Pieces) → length (token_depths depth p) ≡ words p
+pub depths_length : (depth : ℕ) (p : Pieces) → length (token_depths depth p) ≡ words p
 depths_length depth nothing = refl
 depths_length depth (word k more) = omega (arith, depths_length depth more)
 depths_length depth (node r inside more) =
     omega (arith, depths_length (depth + 1) inside, depths_length depth more, length-append (token_depths (depth + 1) inside) (token_depths depth more))
 
-depths_followed : (depth : ℕ) (p q : Pieces) → token_depths depth (followed p q) ≡ token_depths depth p ++ token_depths depth q
+pub depths_followed : (depth : ℕ) (p q : Pieces) → token_depths depth (followed p q) ≡ token_depths depth p ++ token_depths depth q
 depths_followed depth nothing q = refl
 depths_followed depth (word k more) q = ap (λ (l : List ℕ). depth ∷ l) (depths_followed depth more q)
 depths_followed depth (node r inside more) q =

@@ -51,7 +51,7 @@ closed_row rows tokens a h m = (and_parts (is_sole a.at) (is_closed a.parts) (ro
 
 -- ---- what ends with a bracket
 
-brace_read : (front : List Part) (tokens end : List TokenKind) (p : Pieces) → settle true 0 front ≡ Some 0 → Derives (front ++ part.Token kind.RightBrace ∷ []) tokens end p → skip true 0 tokens ≡ Some end
+pub brace_read : (front : List Part) (tokens end : List TokenKind) (p : Pieces) → settle true 0 front ≡ Some 0 → Derives (front ++ part.Token kind.RightBrace ∷ []) tokens end p → skip true 0 tokens ≡ Some end
 brace_read front tokens end p h d =
     let s = split_derived front (part.Token kind.RightBrace ∷ []) tokens end p d in
     let t = token_derived kind.RightBrace [] s.0 end s.2 s.5 in
@@ -65,7 +65,7 @@ block_read tokens end a p (inl e) d =
     (t.0, t.2, brace_read (part.Group group.Statements ∷ []) t.0 end t.1 refl t.4)
 block_read tokens end a p (inr n) d = elim n [ ]
 
-initializer_read : (tokens end : List TokenKind) (a : Alternative) (p : Pieces) → Among a (group_rows group.InitializerBody) → Derives a.parts tokens end p → skip true 0 tokens ≡ Some end
+pub initializer_read : (tokens end : List TokenKind) (a : Alternative) (p : Pieces) → Among a (group_rows group.InitializerBody) → Derives a.parts tokens end p → skip true 0 tokens ≡ Some end
 unfolding group_rows
 initializer_read tokens end a p (inl e) d = brace_read [] tokens end p refl (subst (λ (x : Alternative). Derives x.parts tokens end p) e d)
 initializer_read tokens end a p (inr (inl e)) d =

@@ -22,7 +22,7 @@ use Rattle.zig_parse.specs.Moves.{apart_from, move_from, next_move, waits_for}
 use Rattle.zig_parse.specs.Passes.{any_waits, begun, begun_at, begun_for, depth_for, inside, least_from, least_with, own_height, those_waiting, waiting_by, wants}
 use Rattle.zig_parse.proofs.Tables.{same_kind}
 use Rattle.zig_parse.specs.Ways.{Fork}
-use Rattle.zig_parse.proofs.Paths.{Path, path_ends, path_closes, path_rule, path_group, path_reads, path_waits, look_of, parts_of_items}
+use Rattle.zig_parse.proofs.Paths.{Seen, Told, Path, path_ends, path_closes, path_rule, path_group, path_reads, path_waits, look_of, parts_of_items}
 use Rattle.zig_parse.proofs.Tidy.{tidy}
 use Rattle.zig_parse.proofs.Moving.{Each, each_joined, met_part_keeps, waits_brace}
 use Rattle.zig_parse.proofs.Opening.{Five, five_block, five_initializer, five_body, five_errors, five_switch}
@@ -250,19 +250,20 @@ no_items : (look : Look) (n : ℕ) (is : List Item) → is ≡ [] → move_from 
 no_items look n [] e h = cc
 no_items look n (i ∷ is) e h = cc
 
-pub record ReadsOn (low : ℕ → Type 0) (told : Bool) (t : Thread) (at : ℕ) (more end : List TokenKind) (height : ℕ) (forks : List Fork) : Type 0 where
-  pub shallow : told ≡ true → low (at + 1) → (after_read t).deep ≡ false
+pub record ReadsOn (low : ℕ → Type 0) (told : Told) (t : Thread) (at : ℕ) (more end : List TokenKind) (height : ℕ) (forks : List Fork) : Type 0 where
+  pub shallow : told.is ≡ true → low (at + 1) → (after_read t).deep ≡ false
+  pub seen : Seen told.spot (at + 1) more end (after_read t).frames (after_read t).items
   pub path : Path true low told false (after_read t) (at + 1) more end height forks
 
 differ : (a b c : Move) → a ≡ b → a ≡ c → b ≡ c
 differ a b c e f = sym e ∙ f
 
-pub reads_on : (low : ℕ → Type 0) (told calm : Bool) (t : Thread) (at : ℕ) (k : TokenKind) (more end : List TokenKind) (height : ℕ) (forks : List Fork) → next_move (look_of (k ∷ more)) true t ≡ move.Read → waits_for t ≡ None
+pub reads_on : (low : ℕ → Type 0) (told : Told) (calm : Bool) (t : Thread) (at : ℕ) (k : TokenKind) (more end : List TokenKind) (height : ℕ) (forks : List Fork) → next_move (look_of (k ∷ more)) true t ≡ move.Read → waits_for t ≡ None
     → Path true low told calm t at (k ∷ more) end height forks → ReadsOn low told t at more end height forks
 unfolding next_move
 reads_on low told calm t at k more end height forks h w (path_ends _ _ _ _ _ e) = absurd (no_items (look_of (k ∷ more)) (length t.frames) t.items e h)
 reads_on low told calm t at k more end height forks h w (path_closes _ _ _ _ _ _ _ _ g _) = absurd (let e = differ _ _ _ h g in cc)
 reads_on low told calm t at k more end height forks h w (path_rule _ _ _ _ _ _ _ _ r _ _ g _ _ _) = absurd (let e = differ _ _ _ h g in cc)
 reads_on low told calm t at k more end height forks h w (path_group _ _ _ _ _ _ _ _ r _ _ g _ _ _) = absurd (let e = differ _ _ _ h g in cc)
-reads_on low told calm t at k more end height forks h w (path_reads _ _ _ _ _ _ _ _ _ g v f path) = record { shallow = f; path = path }
-reads_on low told calm t at k more end height forks h w (path_waits _ _ _ _ _ _ _ _ _ _ _ p _ g v _ _ _ _) = absurd (let e : None ≡ Some p = sym w ∙ v in cc)
+reads_on low told calm t at k more end height forks h w (path_reads _ _ _ _ _ _ _ _ _ g v f seen path) = record { shallow = f; seen = seen; path = path }
+reads_on low told calm t at k more end height forks h w (path_waits _ _ _ _ _ _ _ _ _ _ _ p _ _ g v _ _ _ _ _ _) = absurd (let e : None ≡ Some p = sym w ∙ v in cc)

@@ -13,7 +13,7 @@ use Rattle.zig_parse.specs.Passes.{any_waits, begun, begun_at, begun_for, inside
 use Rattle.zig_parse.specs.Surveys.{entered, entered_waiting}
 use Rattle.zig_parse.proofs.Derived.{no_longer}
 use Rattle.zig_parse.specs.Ways.{Fork, noted}
-use Rattle.zig_parse.proofs.Paths.{Path, path_ends, path_closes, path_rule, path_group, path_reads, path_waits, look_of}
+use Rattle.zig_parse.proofs.Paths.{Awaits, Path, Seen, Told, within, path_ends, path_closes, path_rule, path_group, path_reads, path_waits, look_of}
 use Rattle.zig_parse.proofs.Tidy.{tidy, tidy_no_brace}
 use Rattle.zig_parse.proofs.Moving.{coming, Each, each_at, each_kept, met_part_keeps, read_keeps, reads_front, waits_front}
 use Rattle.zig_parse.proofs.Opening.{Five, apart_five, opens, path_derives}
@@ -84,12 +84,13 @@ enter_reads low falls top total at k more live ready waiting ds forks t r w =
       outer = t.outer;
       ready_is = r.ready_is;
       goal_is = r.goal_is;
+      seen = on.seen;
       path = on.path;
       shallow = on.shallow;
       gone = each_kept _ (λ (y : Thread). Gone t.root t.from k more (after_read y)) ready (λ y g. read_gone t.root t.from k more y g.0 g.1) both;
       dead = each_kept _ (λ (y : Thread). Dead t.goal more t.end (after_read y)) r.before (λ y g. read_dead t.root t.from k more t.end t.goal y g.0.0 g.0.1 g.1)
           (each_both _ (Dead t.goal tokens t.end) r.before (each_front _ r.before (r.x ∷ r.after) (subst (Each _) r.ready_is both)) r.dead);
-      hears = hears_later low falls t.told at (at + 1) (omega arith) t.hears;
+      hears = hears_later low falls t.told.is at (at + 1) (omega arith) t.hears;
       around = t.around;
       choices_are = ap (chosen_with at r.news) t.choices_are ∙ chosen_front at r.news t.x.choices t.cs ∙ ap (λ (l : List ℕ). l ++ t.cs) (sym r.choices_are);
       forks_are = refl;
@@ -128,13 +129,15 @@ other_dead more end q g d five differs e p dd =
 
 enter_waits : (low : ℕ → Type 0) → ((n : ℕ) → low (n + 1) → low n) → (top total at : ℕ) (more : List TokenKind) (live ready : List Thread) (waiting : List (List Thread)) (ds : List ℕ) (forks : List Fork)
     → (t : Tracked low top total at (kind.LeftBrace ∷ more) live waiting ds forks) → (r : Readied low at (kind.LeftBrace ∷ more) ready t.root t.goal t.from t.end t.height t.told t.x.choices t.inner)
-    → (mid : List TokenKind) (inner_height : ℕ) (inner outer : List Fork) (p : Part) → r.later ≡ inner ++ outer → waits_for r.x ≡ Some p → (t.told ≡ true → low (at + 1) → (met_part p r.x).deep ≡ false)
-    → ((depth : ℕ) (heard : Bool) → (heard ≡ true → (t.told ≡ true) × (depth ≤ (met_part p r.x).depth)) → Path true low heard false (begun (look_of (kind.LeftBrace ∷ more)) p depth) at (kind.LeftBrace ∷ more) mid inner_height inner)
-    → (t.told ≡ true → low (at + (length (kind.LeftBrace ∷ more) - length mid)) → (received (own_height p inner_height) (met_part p r.x)).deep ≡ false)
+    → (mid : List TokenKind) (inner_height : ℕ) (inner outer : List Fork) (p : Part) (base : ℕ) → r.later ≡ inner ++ outer → waits_for r.x ≡ Some p → (t.told.is ≡ true → low (at + 1) → (met_part p r.x).deep ≡ false)
+    → Awaits t.told.spot at mid t.end (met_part p r.x).frames (met_part p r.x).items p base
+    → ((depth : ℕ) (heard : Bool) → (heard ≡ true → (t.told.is ≡ true) × (depth ≤ (met_part p r.x).depth)) → Path true low (within t.told heard at base) false (begun (look_of (kind.LeftBrace ∷ more)) p depth) at (kind.LeftBrace ∷ more) mid inner_height inner)
+    → (t.told.is ≡ true → low (at + (length (kind.LeftBrace ∷ more) - length mid)) → (received (own_height p inner_height) (met_part p r.x)).deep ≡ false)
+    → Seen t.told.spot (at + (length (kind.LeftBrace ∷ more) - length mid)) mid t.end (received (own_height p inner_height) (met_part p r.x)).frames (received (own_height p inner_height) (met_part p r.x)).items
     → Path true low t.told false (received (own_height p inner_height) (met_part p r.x)) (at + (length (kind.LeftBrace ∷ more) - length mid)) mid t.end t.height outer
     → Entered low top total at kind.LeftBrace more ready waiting ds forks
 unfolding number_of
-enter_waits low falls top total at more live ready waiting ds forks t r mid inner_height inner outer p later_is w shallow go then_shallow then_path =
+enter_waits low falls top total at more live ready waiting ds forks t r mid inner_height inner outer p base later_is w shallow awaits go then_shallow then_seen then_path =
     let tokens = kind.LeftBrace ∷ more in
     let look = look_of tokens in
     let y = met_part p r.x in
@@ -148,28 +151,29 @@ enter_waits low falls top total at more live ready waiting ds forks t r mid inne
     let depth_is : least_from None p those ≡ Some d = ap (least_from None p) those_is ∙ least.1 in
     let b = begun look p d in
     let inside_is = inside_at (λ (q : Part) (u : Thread). Dead q more mid (after_read u)) look those p b five (begun_alone more p those d depth_is) (λ q g e f differs. other_dead more mid q g e f differs) in
-    let h = hear low falls at d y.depth t.told y.deep t.hears shallow least.2 in
+    let h = hear low falls at d y.depth t.told.is y.deep t.hears shallow least.2 in
     let o = opens tokens p d five in
+    let heard = within t.told h.heard at base in
     let inner_path = go d h.heard h.holds in
-    let on = reads_on low h.heard false b at kind.LeftBrace more mid inner_height inner (o.reads refl) o.waits inner_path in
-    let whole = path_derives low h.heard false b at tokens mid inner_height inner inner_path in
+    let on = reads_on low heard false b at kind.LeftBrace more mid inner_height inner (o.reads refl) o.waits inner_path in
+    let whole = path_derives low heard false b at tokens mid inner_height inner inner_path in
     let fits : length mid ≤ length tokens = no_longer (coming b) tokens mid whole.0 whole.1 in
     let then_at = at + (length tokens - length mid) in
     let place : then_at + length mid ≡ total = omega (arith, t.place, fits) in
     let choices_of_y : y.choices ≡ chosen_with at r.news t.x.choices = met_choices p r.x ∙ r.choices_are in
-    let around : Around low top total (those ∷ waiting) p tokens mid inner_height false (y.choices ++ t.cs) (outer ++ t.outer) =
-    in_brace those (those_waiting r.before) (those_waiting r.after) waiting y p t.goal t.from tokens mid t.end t.told t.root then_at inner_height t.height t.cs outer t.outer
+    let around : Around low top total heard.spot (those ∷ waiting) p tokens mid inner_height false (y.choices ++ t.cs) (outer ++ t.outer) =
+    in_brace those (those_waiting r.before) (those_waiting r.after) waiting y p t.goal t.from tokens mid t.end t.told t.root then_at inner_height t.height at base t.cs outer t.outer
     those_is (met_waits p p r.x w) ((met_part_keeps p r.x).1 ∙ r.goal_is)
     (those_each (Dead t.goal tokens t.end) (Dead t.goal tokens t.end) r.before (λ u q k. met_dead t.goal tokens t.end u q k) r.dead)
     (those_each (Readable t.root t.from tokens) (Good t.root t.from tokens) ready (λ u q k. met_good t.root t.from tokens u q k.0) r.good)
-    then_shallow then_path place (hears_later low falls t.told at then_at (omega arith) t.hears) t.around in
+    then_shallow awaits then_seen then_path place (hears_later low falls t.told.is at then_at (omega arith) t.hears) t.around in
     let now : AtToken low top total at kind.LeftBrace more (inside look those) (those ∷ waiting) (chosen_with at r.news ds) (inner ++ (outer ++ t.outer)) = record {
       root = false;
       goal = p;
       from = tokens;
       end = mid;
       height = inner_height;
-      told = h.heard;
+      told = heard;
       x = b;
       before = inside_is.before;
       after = inside_is.after;
@@ -178,6 +182,7 @@ enter_waits low falls top total at more live ready waiting ds forks t r mid inne
       outer = outer ++ t.outer;
       ready_is = inside_is.is;
       goal_is = o.own_goal;
+      seen = on.seen;
       path = on.path;
       shallow = on.shallow;
       gone = inside_each (λ (u : Thread). Gone false tokens kind.LeftBrace more (after_read u)) look those (λ g e f. begun_gone more g e f);
@@ -200,8 +205,9 @@ enter_waits low falls top total at more live ready waiting ds forks t r mid inne
 
 -- ---- both
 
-record WaitsOn (low : ℕ → Type 0) (told : Bool) (t : Thread) (at : ℕ) (k : TokenKind) (more end : List TokenKind) (height : ℕ) (forks : List Fork) : Type 0 where
+record WaitsOn (low : ℕ → Type 0) (told : Told) (t : Thread) (at : ℕ) (k : TokenKind) (more end : List TokenKind) (height : ℕ) (forks : List Fork) : Type 0 where
   p : Part
+  base : ℕ
   mid : List TokenKind
   inner_height : ℕ
   inner : List Fork
@@ -209,20 +215,23 @@ record WaitsOn (low : ℕ → Type 0) (told : Bool) (t : Thread) (at : ℕ) (k :
   brace : k ≡ kind.LeftBrace
   later_is : forks ≡ inner ++ outer
   waits : waits_for t ≡ Some p
-  shallow : told ≡ true → low (at + 1) → (met_part p t).deep ≡ false
-  go : (depth : ℕ) (heard : Bool) → (heard ≡ true → (told ≡ true) × (depth ≤ (met_part p t).depth)) → Path true low heard false (begun (look_of (k ∷ more)) p depth) at (k ∷ more) mid inner_height inner
-  then_shallow : told ≡ true → low (at + (length (k ∷ more) - length mid)) → (received (own_height p inner_height) (met_part p t)).deep ≡ false
+  shallow : told.is ≡ true → low (at + 1) → (met_part p t).deep ≡ false
+  awaits : Awaits told.spot at mid end (met_part p t).frames (met_part p t).items p base
+  go : (depth : ℕ) (heard : Bool) → (heard ≡ true → (told.is ≡ true) × (depth ≤ (met_part p t).depth)) → Path true low (within told heard at base) false (begun (look_of (k ∷ more)) p depth) at (k ∷ more) mid inner_height inner
+  then_shallow : told.is ≡ true → low (at + (length (k ∷ more) - length mid)) → (received (own_height p inner_height) (met_part p t)).deep ≡ false
+  then_seen : Seen told.spot (at + (length (k ∷ more) - length mid)) mid end (received (own_height p inner_height) (met_part p t)).frames (received (own_height p inner_height) (met_part p t)).items
   then_path : Path true low told false (received (own_height p inner_height) (met_part p t)) (at + (length (k ∷ more) - length mid)) mid end height outer
 
-waits_or : (low : ℕ → Type 0) (told calm : Bool) (t : Thread) (at : ℕ) (k : TokenKind) (more end : List TokenKind) (height : ℕ) (forks : List Fork) → length end < length (k ∷ more) → next_move (look_of (k ∷ more)) true t ≡ move.Read
+waits_or : (low : ℕ → Type 0) (told : Told) (calm : Bool) (t : Thread) (at : ℕ) (k : TokenKind) (more end : List TokenKind) (height : ℕ) (forks : List Fork) → length end < length (k ∷ more) → next_move (look_of (k ∷ more)) true t ≡ move.Read
     → Path true low told calm t at (k ∷ more) end height forks → (waits_for t ≡ None) ⊎ WaitsOn low told t at k more end height forks
 waits_or low told calm t at k more end height forks l h (path_ends _ _ _ _ _ e) = absurd (omega arith)
 waits_or low told calm t at k more end height forks l h (path_closes _ _ _ _ _ _ _ _ g _) = absurd (let e : move.Read ≡ move.Close = sym h ∙ g in cc)
 waits_or low told calm t at k more end height forks l h (path_rule _ _ _ _ _ _ _ _ r _ _ g _ _ _) = absurd (let e : move.Read ≡ move.Rule r = sym h ∙ g in cc)
 waits_or low told calm t at k more end height forks l h (path_group _ _ _ _ _ _ _ _ r _ _ g _ _ _) = absurd (let e : move.Read ≡ move.Group r = sym h ∙ g in cc)
-waits_or low told calm t at k more end height forks l h (path_reads _ _ _ _ _ _ _ _ _ g v f path) = inl v
-waits_or low told calm t at k more end height forks l h (path_waits _ _ _ _ _ mid _ _ inner_height inner outer p _ g v f go s path) = inr (record {
+waits_or low told calm t at k more end height forks l h (path_reads _ _ _ _ _ _ _ _ _ g v f seen path) = inl v
+waits_or low told calm t at k more end height forks l h (path_waits _ _ _ _ _ mid _ _ inner_height inner outer p base _ g v f awaits go s seen path) = inr (record {
   p = p;
+  base = base;
   mid = mid;
   inner_height = inner_height;
   inner = inner;
@@ -231,8 +240,10 @@ waits_or low told calm t at k more end height forks l h (path_waits _ _ _ _ _ mi
   later_is = refl;
   waits = v;
   shallow = f;
+  awaits = awaits;
   go = go;
   then_shallow = s;
+  then_seen = seen;
   then_path = path;
 })
 
@@ -242,7 +253,7 @@ enter_brace : (low : ℕ → Type 0) → ((n : ℕ) → low (n + 1) → low n) �
 enter_brace low falls top total at k more live ready waiting ds forks e =
     subst (λ (j : TokenKind). (t : Tracked low top total at (j ∷ more) live waiting ds forks) → (r : Readied low at (j ∷ more) ready t.root t.goal t.from t.end t.height t.told t.x.choices t.inner) → WaitsOn low t.told r.x at j more t.end t.height r.later
     → Entered low top total at j more ready waiting ds forks) (sym e)
-    (λ t r on. enter_waits low falls top total at more live ready waiting ds forks t r on.mid on.inner_height on.inner on.outer on.p on.later_is on.waits on.shallow on.go on.then_shallow on.then_path)
+    (λ t r on. enter_waits low falls top total at more live ready waiting ds forks t r on.mid on.inner_height on.inner on.outer on.p on.base on.later_is on.waits on.shallow on.awaits on.go on.then_shallow on.then_seen on.then_path)
 
 pub enter_path : (low : ℕ → Type 0) → ((n : ℕ) → low (n + 1) → low n) → (top total at : ℕ) (k : TokenKind) (more : List TokenKind) (live : List Thread) (waiting : List (List Thread)) (ds : List ℕ) (forks : List Fork)
     → Tracked low top total at (k ∷ more) live waiting ds forks → Entered low top total at k more (settled_all (look_of (k ∷ more)) at live) waiting ds forks

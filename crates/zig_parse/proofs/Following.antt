@@ -11,7 +11,7 @@ use Rattle.zig_tree.specs.declared.grammar.Part.{Part}
 use Rattle.zig_tree.specs.declared.grammar.Part.TheVariants as part
 use Rattle.zig_tree.specs.Kinds.{number_of}
 use Rattle.zig_tree.specs.Grammar.{row, rule_rows}
-use Rattle.zig_tree.specs.GrammarSentences.{nothing, followed, made, derives_none, derives_rule}
+use Rattle.zig_tree.specs.GrammarSentences.{AreShallow, Derives, Pieces, nothing, followed, made, derives_none, derives_rule}
 use Rattle.zig_parse.specs.declared.choice.Look.{Look}
 use Rattle.zig_parse.specs.declared.thread.Thread.{Thread}
 use Rattle.zig_parse.specs.declared.state.State.{State}
@@ -28,7 +28,9 @@ use Rattle.zig_parse.specs.Growth.{is_second}
 use Rattle.zig_parse.specs.Trees.{kinds_of}
 use Rattle.zig_parse.proofs.Spelled.{look_here}
 use Rattle.zig_parse.specs.Ways.{Fork, noted}
-use Rattle.zig_parse.proofs.Paths.{Path, look_of}
+use Rattle.zig_parse.proofs.Paths.{Path, Seen, in_file, look_of}
+use Rattle.zig_parse.proofs.Weights.{weighs}
+use Rattle.zig_parse.proofs.Layers.{layers_more, layers_none, root_spot}
 use Rattle.zig_parse.proofs.Free.{own, path_own}
 use Rattle.zig_parse.proofs.Moving.{coming}
 use Rattle.zig_parse.proofs.Opening.{path_derives}
@@ -108,6 +110,7 @@ alone_path low top total at tokens (u ∷ []) waiting ds forks marks t =
         outer = t.outer;
         live_is = refl;
         goal_is = ap (λ (y : Thread). y.goal) (sym o.1) ∙ t.goal_is;
+        seen = subst (λ (y : Thread). Seen t.told.spot at tokens t.end y.frames y.items) o.1 t.seen;
         path = path_own true low t.told false u at tokens t.end t.height t.inner [] (subst (λ (y : Thread). Path true low t.told false y at tokens t.end t.height t.inner) o.1 t.path);
         shorter = t.shorter;
         good = (own_good t.root t.from tokens u [] t.good.0, tt);
@@ -341,20 +344,30 @@ nil_behind (f ∷ fs) = ap (λ (l : List Fork). f ∷ l) (nil_behind fs)
 no_part : (p : Part) (ps qs : List Part) → qs ≡ p ∷ ps → qs ≡ [] → ⊥
 no_part p ps qs e h = cc
 
-pub started : (low : ℕ → Type 0) (kinds : List TokenKind) (height : ℕ) (forks : List Fork) → Path true low true false (begun (look_of kinds) (part.Rule rule.Root) 0) 0 kinds [] height forks
+first_seen : (depths : List ℕ) (kinds : List TokenKind) (p : Pieces) → Derives (coming (begun (look_of kinds) (part.Rule rule.Root) 0)) kinds [] p
+    → Seen (root_spot depths) 0 kinds [] (begun (look_of kinds) (part.Rule rule.Root) 0).frames (begun (look_of kinds) (part.Rule rule.Root) 0).items
+unfolding begun choices matching rule_rows put opened fresh collapses
+first_seen depths kinds p d = record {
+  depth = 1;
+  loose = 0;
+  layers = layers_more [] 0 0 0 (record { rule = rule.Root; parts = 0; height = 0; solid = true }) nothing true layers_none (λ e. refl) (omega arith) ([], depths, refl, refl);
+  light = omega (arith, weighs (coming (begun (look_of kinds) (part.Rule rule.Root) 0)) kinds [] p d);
+}
+
+pub started : (low : ℕ → Type 0) (depths : List ℕ) → ((n : ℕ) → AreShallow (take n depths) → low n) → (kinds : List TokenKind) (height : ℕ) (forks : List Fork) → Path true low (in_file depths) false (begun (look_of kinds) (part.Rule rule.Root) 0) 0 kinds [] height forks
     → Tracked low height (length kinds) 0 kinds (first_state (look_of kinds)).live (first_state (look_of kinds)).waiting [] forks
 unfolding first_state
-started low kinds height forks path =
+started low depths lows kinds height forks path =
     let x = begun (look_of kinds) (part.Rule rule.Root) 0 in
     let good = root_good kinds in
-    let d = path_derives low true false x 0 kinds [] height forks path in
+    let d = path_derives low (in_file depths) false x 0 kinds [] height forks path in
     record {
       root = true;
       goal = part.Rule rule.Root;
       from = kinds;
       end = [];
       height = height;
-      told = true;
+      told = in_file depths;
       x = x;
       before = [];
       after = [];
@@ -363,12 +376,13 @@ started low kinds height forks path =
       outer = [];
       live_is = refl;
       goal_is = (root_goal kinds).0;
+      seen = first_seen depths kinds d.0 d.1;
       path = path;
       shorter = tidy_shorter true (coming x) kinds [] d.0 good.tidies (no_part _ _ (coming x) (root_parts kinds)) d.1;
       good = (good, tt);
       dead = tt;
       hears = inl refl;
-      around = at_root kinds;
+      around = at_root depths kinds lows;
       choices_are = ap (λ (l : List ℕ). l ++ []) (sym (root_goal kinds).1);
       forks_are = nil_behind forks;
       place = omega arith;
@@ -394,16 +408,16 @@ unfolding marked
 marked_none m = refl
 
 -- the first pass accepts the tokens of a path whose depth is within the limit
-pub survey_follows : (low : ℕ → Type 0) → ((n : ℕ) → low (n + 1) → low n) → (tokens : List Token) (height : ℕ) (forks : List Fork) → Path true low true false (begun (look_of (kinds_of tokens)) (part.Rule rule.Root) 0) 0 (kinds_of tokens) [] height forks
+pub survey_follows : (low : ℕ → Type 0) → ((n : ℕ) → low (n + 1) → low n) → (depths : List ℕ) → ((n : ℕ) → AreShallow (take n depths) → low n) → (tokens : List Token) (height : ℕ) (forks : List Fork) → Path true low (in_file depths) false (begun (look_of (kinds_of tokens)) (part.Rule rule.Root) 0) 0 (kinds_of tokens) [] height forks
     → Accepts low (length tokens) (length tokens) 0 tokens (first_state (look_at tokens 0)) (replicate (length tokens) false) → Follows tokens forks
-survey_follows low falls tokens height forks path lows =
+survey_follows low falls depths said tokens height forks path lows =
     let kinds = kinds_of tokens in
     let n = length tokens in
     let same : length kinds ≡ n = kinds_length tokens in
     let marks = replicate n false in
     let first : look_at tokens 0 ≡ look_of kinds = look_here tokens 0 in
     let state = first_state (look_of kinds) in
-    let t : Tracked low height n 0 kinds state.live state.waiting [] forks = subst (λ (k : ℕ). Tracked low height k 0 kinds state.live state.waiting [] forks) same (started low kinds height forks path) in
+    let t : Tracked low height n 0 kinds state.live state.waiting [] forks = subst (λ (k : ℕ). Tracked low height k 0 kinds state.live state.waiting [] forks) same (started low depths said kinds height forks path) in
     let r = run low falls height n n 0 tokens state marks [] forks kinds t same (whole_looks tokens n) (subst (λ (l : Look). Accepts low n n 0 tokens (first_state l) marks) first lows) (subst (Open n 0) (sym (marked_none marks)) (open_first n)) in
     record {
       found = r.found;
@@ -412,13 +426,13 @@ survey_follows low falls tokens height forks path lows =
     }
 
 -- and refuses none of the tokens that another list has in common with them, up to one before the last
-pub front_follows : (low : ℕ → Type 0) → ((n : ℕ) → low (n + 1) → low n) → (kinds : List TokenKind) (height : ℕ) (forks : List Fork) → Path true low true false (begun (look_of kinds) (part.Rule rule.Root) 0) 0 kinds [] height forks
+pub front_follows : (low : ℕ → Type 0) → ((n : ℕ) → low (n + 1) → low n) → (depths : List ℕ) → ((n : ℕ) → AreShallow (take n depths) → low n) → (kinds : List TokenKind) (height : ℕ) (forks : List Fork) → Path true low (in_file depths) false (begun (look_of kinds) (part.Rule rule.Root) 0) 0 kinds [] height forks
     → (tokens : List Token) (n m a : ℕ) (marks : List Bool) → n ≤ length kinds → Looks tokens 0 n kinds → Wrong low (surveyed m 0 tokens (first_state (look_at tokens 0)) marks) a → n ≤ a
-front_follows low falls kinds height forks path tokens zero m a marks l looks h = omega arith
-front_follows low falls kinds height forks path tokens (suc n) m a marks l looks h =
+front_follows low falls depths said kinds height forks path tokens zero m a marks l looks h = omega arith
+front_follows low falls depths said kinds height forks path tokens (suc n) m a marks l looks h =
     let first : look_at tokens 0 ≡ look_of kinds = looks_here tokens 0 n kinds looks in
     let state = first_state (look_of kinds) in
-    let e = front_run low falls height (length kinds) (suc n) m 0 tokens state marks [] forks kinds a (started low kinds height forks path) l looks
+    let e = front_run low falls height (length kinds) (suc n) m 0 tokens state marks [] forks kinds a (started low depths said kinds height forks path) l looks
     (subst (λ (u : Look). Wrong low (surveyed m 0 tokens (first_state u) marks) a) first h) in
     omega arith
 

@@ -175,7 +175,7 @@ level_touch at_depth base depth true true n s l b d = omega arith
 level_touch at_depth base depth true false n s l b d = absurd (let e = n s in cc)
 level_touch at_depth base depth false is_node n s l b d = absurd (cc)
 
-hard_same : (f : Frame) → f.solid ≡ true → f ≡ hard_frame f
+pub hard_same : (f : Frame) → f.solid ≡ true → f ≡ hard_frame f
 hard_same f e = ap (λ (b : Bool). record f { solid = b }) e
 
 soft_begins : (low : ℕ → Type 0) (told : Bool) (t : Thread) (at : ℕ) (f : Frame) (fs : List Frame) (had : Pieces) (lone is_node : Bool) (base depth : ℕ) (s : Stands low told t at f fs had lone is_node base depth)

@@ -12,7 +12,7 @@ use Rattle.zig_parse.specs.Threads.{after_read, closed, closed_from, hardened, i
 use Rattle.zig_parse.specs.Moves.{next_move, waits_for}
 use Rattle.zig_parse.specs.Passes.{own_height}
 use Rattle.zig_parse.specs.Ways.{Fork}
-use Rattle.zig_parse.proofs.Paths.{Path, path_ends, path_closes, path_rule, path_group, path_reads, path_waits, is_cons}
+use Rattle.zig_parse.proofs.Paths.{Awaits, Path, Seen, Told, path_ends, path_closes, path_rule, path_group, path_reads, path_waits, is_cons}
 
 -- the thread with these choices
 abbrev pub own : List ℕ → Thread → Thread
@@ -67,7 +67,7 @@ pub received_own : (cs : List ℕ) (height : ℕ) (t : Thread) → received heig
 unfolding received
 received_own cs height t = refl
 
-pub path_own : (apart : Bool) (low : ℕ → Type 0) (told calm : Bool) (t : Thread) (at : ℕ) (tokens end : List TokenKind) (height : ℕ) (forks : List Fork) (cs : List ℕ) → Path apart low told calm t at tokens end height forks
+pub path_own : (apart : Bool) (low : ℕ → Type 0) (told : Told) (calm : Bool) (t : Thread) (at : ℕ) (tokens end : List TokenKind) (height : ℕ) (forks : List Fork) (cs : List ℕ) → Path apart low told calm t at tokens end height forks
     → Path apart low told calm (own cs t) at tokens end height forks
 unfolding next_move waits_for
 path_own apart low told calm t at tokens end height forks cs (path_ends _ _ _ _ _ e) = path_ends told calm (own cs t) at end e
@@ -80,16 +80,19 @@ path_own apart low told calm t at tokens end height forks cs (path_rule _ _ _ _ 
 path_own apart low told calm t at tokens end height forks cs (path_group _ _ _ _ _ _ _ later g a choices h c k more) =
     path_group told calm (own cs t) at tokens end height later g a choices h c k
     (subst (λ (x : Thread). Path apart low told (calm || is_cons choices) x at tokens end height later) (sym (group_own cs a.parts t)) (path_own apart low told (calm || is_cons choices) (replaced None a.parts t) at tokens end height later cs more))
-path_own apart low told calm t at tokens end height forks cs (path_reads _ _ _ _ k left _ _ _ h w f more) =
+path_own apart low told calm t at tokens end height forks cs (path_reads _ _ _ _ k left _ _ _ h w f seen more) =
     path_reads told calm (own cs t) at k left end height forks h w (λ a b. ap (λ (x : Thread). x.deep) (read_own cs t) ∙ f a b)
+    (subst (λ (x : Thread). Seen told.spot (at + 1) left end x.frames x.items) (sym (read_own cs t)) seen)
     (subst (λ (x : Thread). Path apart low told false x (at + 1) left end height forks) (sym (read_own cs t)) (path_own apart low told false (after_read t) (at + 1) left end height forks cs more))
-path_own apart low told calm t at tokens end height forks cs (path_waits _ _ _ _ left mid _ _ inner_height inner outer p ap_true h w f go g more) =
+path_own apart low told calm t at tokens end height forks cs (path_waits _ _ _ _ left mid _ _ inner_height inner outer p base ap_true h w f awaits go g seen more) =
     let whole = kind.LeftBrace ∷ left in
     let then_at = at + (length whole - length mid) in
     let h2 = own_height p inner_height in
     let e : received h2 (met_part p (own cs t)) ≡ own cs (received h2 (met_part p t)) = ap (received h2) (met_part_own cs p t) ∙ received_own cs h2 (met_part p t) in
-    path_waits told calm (own cs t) at left mid end height inner_height inner outer p ap_true h w
+    path_waits told calm (own cs t) at left mid end height inner_height inner outer p base ap_true h w
     (λ a b. ap (λ (x : Thread). x.deep) (met_part_own cs p t) ∙ f a b)
+    (subst (λ (x : Thread). Awaits told.spot at mid end x.frames x.items p base) (sym (met_part_own cs p t)) awaits)
     (λ depth heard k. go depth heard (λ e. (let j = k e in (j.0, subst (λ (n : ℕ). depth ≤ n) (ap (λ (x : Thread). x.depth) (met_part_own cs p t)) j.1))))
     (λ a b. ap (λ (x : Thread). x.deep) e ∙ g a b)
+    (subst (λ (x : Thread). Seen told.spot then_at mid end x.frames x.items) (sym e) seen)
     (subst (λ (x : Thread). Path apart low told false x then_at mid end height outer) (sym e) (path_own apart low told false (received h2 (met_part p t)) then_at mid end height outer cs more))

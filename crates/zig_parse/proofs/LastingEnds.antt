@@ -98,12 +98,13 @@ ended_read read n goal ps k c end l h e r = by l.story
 
 -- ---- what waits
 
--- behind what is read in a brace some tokens can come with which all ends
-record Completes (before : List TokenKind) (goal : Part) : Type 0 where
-  k : TokenKind
-  m : List TokenKind
-  follows : may_follow k goal ≡ true
-  close : (y : List TokenKind) → ((more : List TokenKind) × (y ≡ kind.LeftBrace ∷ more)) → Reads (goal ∷ []) (y ++ k ∷ m) (k ∷ m) → Reads (part.Rule rule.Root ∷ []) (before ++ (y ++ k ∷ m)) []
+-- behind what is read in a brace these tokens can come, with which all ends
+pub record Completes (before : List TokenKind) (goal : Part) (tail : List TokenKind) : Type 0 where
+  pub k : TokenKind
+  pub m : List TokenKind
+  pub tail_is : tail ≡ k ∷ m
+  pub follows : may_follow k goal ≡ true
+  pub close : (y : List TokenKind) → ((more : List TokenKind) × (y ≡ kind.LeftBrace ∷ more)) → Reads (goal ∷ []) (y ++ k ∷ m) (k ∷ m) → Reads (part.Rule rule.Root ∷ []) (before ++ (y ++ k ∷ m)) []
 
 root_follows : may_follow kind.End (part.Rule rule.Root) ≡ true
 unfolding number_of
@@ -116,8 +117,18 @@ not_end : (p : Part) (qs : List Part) → is_apart p ≡ true → EndsFile (p �
 not_end p qs a ([], e) = absurd (let same : p ≡ part.Token kind.End = cc in let wrong : false ≡ true = sym (ap is_apart same) ∙ a in cc)
 not_end p qs a (x ∷ xs, e) = (xs, cc)
 
+-- what is to come in the file after a brace
+pub file_tail : (read : List TokenKind) (w : Thread) → Waits [] read w → Reads (parts_of_items (rest w.items)) (quick_all (parts_of_items (rest w.items))) []
+file_tail read w h =
+    let first = waits_front w h.p h.waits in
+    let qs = parts_of_items (rest w.items) in
+    let root : w.goal ≡ part.Rule rule.Root = h.wanted in
+    let whole = subst (λ (l : List Part). ends_before kind.End l ≡ true) first.first (h.ended kind.End (subst (λ (g : Part). may_follow kind.End g ≡ true) (sym root) root_follows)) in
+    let s = and_parts (may_follow (first_or (quick_all qs) kind.End) h.p) (ends_before kind.End qs) whole in
+    file_read qs (not_end h.p qs first.apart (file_ends h.p qs (subst (λ (l : List Part). tidy true l ≡ true) first.first h.tidies))) s.1
+
 -- in the file itself
-file_completes : (front read : List TokenKind) (w : Thread) (goal : Part) → Around front [] → (h : Waits [] read w) → h.p ≡ goal → Completes (front ++ read) goal
+pub file_completes : (front read : List TokenKind) (w : Thread) (goal : Part) → Around front [] → (h : Waits [] read w) → h.p ≡ goal → Completes (front ++ read) goal (quick_all (parts_of_items (rest w.items)))
 file_completes front read w goal a h same =
     let first = waits_front w h.p h.waits in
     let qs = parts_of_items (rest w.items) in
@@ -125,11 +136,12 @@ file_completes front read w goal a h same =
     let ended = h.ended kind.End (subst (λ (g : Part). may_follow kind.End g ≡ true) (sym root) root_follows) in
     let whole = subst (λ (l : List Part). ends_before kind.End l ≡ true) first.first ended in
     let s = and_parts (may_follow (first_or (quick_all qs) kind.End) h.p) (ends_before kind.End qs) whole in
-    let tail = file_read qs (not_end h.p qs first.apart (file_ends h.p qs (subst (λ (l : List Part). tidy true l ≡ true) first.first h.tidies))) s.1 in
+    let tail = file_tail read w h in
     let some = some_tokens qs (not_end h.p qs first.apart (file_ends h.p qs (subst (λ (l : List Part). tidy true l ≡ true) first.first h.tidies))) in
     record {
       k = first_or (quick_all qs) kind.End;
       m = some.0;
+      tail_is = some.1;
       follows = subst (λ (g : Part). may_follow (first_or (quick_all qs) kind.End) g ≡ true) same s.0;
       close = λ y starts r. (
           let k = first_or (quick_all qs) kind.End in
@@ -151,21 +163,22 @@ file_completes front read w goal a h same =
         (s.0, same ∙ s.1 ∙ ap (λ (j : TokenKind). j ∷ s.0) (sym one)))
 
 -- in a brace around
-brace_completes : (those : List Thread) (waiting : List (List Thread)) (front read : List TokenKind) (w : Thread) (goal : Part) → Starts (those ∷ waiting) read → (h : Waits (those ∷ waiting) read w) → h.p ≡ goal → Completes front w.goal → Completes (front ++ read) goal
-brace_completes those waiting front read w goal starts h same o =
+pub brace_completes : (those : List Thread) (waiting : List (List Thread)) (front read : List TokenKind) (w : Thread) (goal : Part) (tail : List TokenKind) → Starts (those ∷ waiting) read → (h : Waits (those ∷ waiting) read w) → h.p ≡ goal → Completes front w.goal tail → Completes (front ++ read) goal (quick_all (parts_of_items (rest w.items)) ++ tail)
+brace_completes those waiting front read w goal tail starts h same o =
     let first = waits_front w h.p h.waits in
     let qs = parts_of_items (rest w.items) in
     let whole = subst (λ (l : List Part). ends_before o.k l ≡ true) first.first (h.ended o.k o.follows) in
     let s = and_parts (may_follow (first_or (quick_all qs) o.k) h.p) (ends_before o.k qs) whole in
-    let tail = can_end qs o.k o.m s.1 in
+    let ending = can_end qs o.k o.m s.1 in
     let t = split_first (quick_all qs) o.k o.m in
     record {
       k = first_or (quick_all qs) o.k;
       m = t.0;
+      tail_is = ap (λ (l : List TokenKind). quick_all qs ++ l) o.tail_is ∙ t.1;
       follows = subst (λ (g : Part). may_follow (first_or (quick_all qs) o.k) g ≡ true) same s.0;
       close = λ y begins r. (
           let now = first_or (quick_all qs) o.k ∷ t.0 in
-          let both = joined_read (h.p ∷ []) qs (y ++ now) now (o.k ∷ o.m) (subst (λ (g : Part). Reads (g ∷ []) (y ++ now) now) (sym same) r) (subst (λ (l : List TokenKind). Reads qs l (o.k ∷ o.m)) t.1 tail) in
+          let both = joined_read (h.p ∷ []) qs (y ++ now) now (o.k ∷ o.m) (subst (λ (g : Part). Reads (g ∷ []) (y ++ now) now) (sym same) r) (subst (λ (l : List TokenKind). Reads qs l (o.k ∷ o.m)) t.1 ending) in
           let brace : y ++ now ≡ kind.LeftBrace ∷ (begins.0 ++ now) = ap (λ (l : List TokenKind). l ++ now) begins.1 in
           let done = h.story (begins.0 ++ now) (o.k ∷ o.m) (subst (λ (l : List TokenKind). Reads (coming w) l (o.k ∷ o.m)) brace (subst (λ (l : List Part). Reads l (y ++ now) (o.k ∷ o.m)) (sym first.first) both)) in
           let z = read ++ (y ++ quick_all qs) in
@@ -177,47 +190,43 @@ brace_completes those waiting front read w goal starts h same o =
           );
     }
 
-found_in : (P : Thread → Type 0) (ts : List Thread) (w : Thread) → In w ts → Each P ts → P w
+pub found_in : (P : Thread → Type 0) (ts : List Thread) (w : Thread) → In w ts → Each P ts → P w
 found_in P [] w i h = absurd i
 found_in P (t ∷ ts) w (inl e) h = subst P (sym e) h.0
 found_in P (t ∷ ts) w (inr i) h = found_in P ts w i h.1
 
-some_is : (p q : Part) → ◌≡◌ {A = Option Part} (Some p) (Some q) → p ≡ q
+pub some_is : (p q : Part) → ◌≡◌ {A = Option Part} (Some p) (Some q) → p ≡ q
 some_is p q e = cc
 
-completes : (before : List TokenKind) (those : List Thread) (waiting : List (List Thread)) (goal : Part) → Around before (those ∷ waiting) → Wanted (those ∷ waiting) goal → Completes before goal
+pub completes : (before : List TokenKind) (those : List Thread) (waiting : List (List Thread)) (goal : Part) → Around before (those ∷ waiting) → Wanted (those ∷ waiting) goal → (tail : List TokenKind) × Completes before goal tail
 completes before those [] goal (around_brace front read _ _ a starts each) w =
     let h = found_in (Waits [] read) those w.0 w.1 each in
-    file_completes front read w.0 goal a h (some_is h.p goal (sym h.waits ∙ w.2))
+    (quick_all (parts_of_items (rest w.0.items)), file_completes front read w.0 goal a h (some_is h.p goal (sym h.waits ∙ w.2)))
 completes before those (others ∷ waiting) goal (around_brace front read _ _ a starts each) w =
     let h = found_in (Waits (others ∷ waiting) read) those w.0 w.1 each in
-    brace_completes others waiting front read w.0 goal starts h (some_is h.p goal (sym h.waits ∙ w.2)) (completes front others waiting w.0.goal a h.wanted)
+    let o = completes front others waiting w.0.goal a h.wanted in
+    (quick_all (parts_of_items (rest w.0.items)) ++ o.0, brace_completes others waiting front read w.0 goal o.0 starts h (some_is h.p goal (sym h.waits ∙ w.2)) o.1)
 
 -- ---- the thread that is left
 
-file_lasts : (front read : List TokenKind) (n : TokenKind) (t : Thread) → Around front [] → Alive [] read n t → (w : List TokenKind) × Reads (part.Rule rule.Root ∷ []) ((front ++ read) ++ w) []
-file_lasts front read n t a l = by (coming t) refl
+pub file_front : (read : List TokenKind) (n : TokenKind) (t : Thread) → Alive [] read n t → Reads (coming t) (quick_all (coming t)) []
+file_front read n t l = by (coming t) refl
   where
-    goal_is : t.goal ≡ part.Rule rule.Root
-    goal_is = l.wanted
+    by : (ps : List Part) → coming t ≡ ps → Reads (coming t) (quick_all (coming t)) []
+    by [] e = subst (λ (ps : List Part). Reads ps (quick_all ps) []) (sym e) (nothing, derives_none [])
+    by (p ∷ ps) e =
+        file_read (coming t) (subst EndsFile (sym e) (file_ends p ps (subst (λ (x : List Part). tidy true x ≡ true) e l.tidies))) (l.lively.ended kind.End (subst (λ (g : Part). may_follow kind.End g ≡ true) (sym l.wanted) root_follows))
 
-    ended : ends_before kind.End (coming t) ≡ true
-    ended = l.lively.ended kind.End (subst (λ (g : Part). may_follow kind.End g ≡ true) (sym l.wanted) root_follows)
+pub file_lasts : (front read : List TokenKind) (n : TokenKind) (t : Thread) → Around front [] → Alive [] read n t → Reads (part.Rule rule.Root ∷ []) ((front ++ read) ++ quick_all (coming t)) []
+file_lasts front read n t a l =
+    let c = quick_all (coming t) in
+    let ended = l.lively.ended kind.End (subst (λ (g : Part). may_follow kind.End g ≡ true) (sym l.wanted) root_follows) in
+    let whole = ended_read read n t.goal (coming t) kind.End c [] l.lively ended (next_first c) (file_front read n t l) in
+    subst (λ (x : List TokenKind). Reads (part.Rule rule.Root ∷ []) ((x ++ read) ++ c) []) (sym (no_before front a)) (subst (λ (g : Part). Reads (g ∷ []) (read ++ c) []) l.wanted whole)
 
-    done : Reads (coming t) (quick_all (coming t)) [] → (w : List TokenKind) × Reads (part.Rule rule.Root ∷ []) ((front ++ read) ++ w) []
-    done r =
-        (let c = quick_all (coming t) in
-        let whole = ended_read read n t.goal (coming t) kind.End c [] l.lively ended (next_first c) r in
-        (c, subst (λ (x : List TokenKind). Reads (part.Rule rule.Root ∷ []) ((x ++ read) ++ c) []) (sym (no_before front a)) (subst (λ (g : Part). Reads (g ∷ []) (read ++ c) []) l.wanted whole)))
-
-    by : (ps : List Part) → coming t ≡ ps → (w : List TokenKind) × Reads (part.Rule rule.Root ∷ []) ((front ++ read) ++ w) []
-    by [] e = done (subst (λ (ps : List Part). Reads ps (quick_all ps) []) (sym e) (nothing, derives_none []))
-    by (p ∷ ps) e = done (file_read (coming t) (subst EndsFile (sym e) (file_ends p ps (subst (λ (x : List Part). tidy true x ≡ true) e l.tidies))) ended)
-
-brace_lasts : (before read : List TokenKind) (those : List Thread) (waiting : List (List Thread)) (n : TokenKind) (t : Thread) → Around before (those ∷ waiting) → Starts (those ∷ waiting) read → Alive (those ∷ waiting) read n t
-    → (w : List TokenKind) × Reads (part.Rule rule.Root ∷ []) ((before ++ read) ++ w) []
-brace_lasts before read those waiting n t a starts l =
-    let o = completes before those waiting t.goal a l.wanted in
+pub brace_lasts : (before read : List TokenKind) (those : List Thread) (waiting : List (List Thread)) (n : TokenKind) (t : Thread) (tail : List TokenKind) → Starts (those ∷ waiting) read → Alive (those ∷ waiting) read n t → Completes before t.goal tail
+    → Reads (part.Rule rule.Root ∷ []) ((before ++ read) ++ (quick_all (coming t) ++ tail)) []
+brace_lasts before read those waiting n t tail starts l o =
     let ps = coming t in
     let ended = l.lively.ended o.k o.follows in
     let c = quick_all ps ++ o.k ∷ o.m in
@@ -225,7 +234,8 @@ brace_lasts before read those waiting n t a starts l =
     let y = read ++ quick_all ps in
     let as_y : read ++ c ≡ y ++ o.k ∷ o.m = sym (append_assoc read (quick_all ps) (o.k ∷ o.m)) in
     let closed = o.close y (starts.0 ++ quick_all ps, ap (λ (x : List TokenKind). x ++ quick_all ps) starts.1) (subst (λ (x : List TokenKind). Reads (t.goal ∷ []) x (o.k ∷ o.m)) as_y whole) in
-    (c, subst (λ (x : List TokenKind). Reads (part.Rule rule.Root ∷ []) x []) (ap (λ (x : List TokenKind). before ++ x) (sym as_y) ∙ sym (append_assoc before read c)) closed)
+    subst (λ (x : List TokenKind). Reads (part.Rule rule.Root ∷ []) x [])
+    (ap (λ (x : List TokenKind). before ++ x) (sym as_y) ∙ sym (append_assoc before read c) ∙ ap (λ (x : List TokenKind). (before ++ read) ++ (quick_all (coming t) ++ x)) (sym o.tail_is)) closed
 
 -- the rules derive some tokens that begin with those that were read
 pub some_ends : (live : List Thread) (waiting : List (List Thread)) (front : List TokenKind) (n : TokenKind) (t : Thread) (ts : List Thread) → live ≡ t ∷ ts → Lasts live waiting front n → (w : List TokenKind) × Reads (part.Rule rule.Root ∷ []) (front ++ w) []
@@ -235,5 +245,8 @@ some_ends live waiting front n t ts e l = by waiting l.around l.starts (subst (�
     back w r = subst (λ (x : List TokenKind). Reads (part.Rule rule.Root ∷ []) (x ++ w) []) (sym l.front_is) r
 
     by : (ws : List (List Thread)) → Around l.before ws → Starts ws l.read → Alive ws l.read n t → (w : List TokenKind) × Reads (part.Rule rule.Root ∷ []) (front ++ w) []
-    by [] a s h = (let r = file_lasts l.before l.read n t a h in (r.0, back r.0 r.1))
-    by (those ∷ others) a s h = (let r = brace_lasts l.before l.read those others n t a s h in (r.0, back r.0 r.1))
+    by [] a s h = (quick_all (coming t), back (quick_all (coming t)) (file_lasts l.before l.read n t a h))
+    by (those ∷ others) a s h =
+        (let o = completes l.before those others t.goal a h.wanted in
+        let w = quick_all (coming t) ++ o.0 in
+        (w, back w (brace_lasts l.before l.read those others n t o.0 s h o.1)))

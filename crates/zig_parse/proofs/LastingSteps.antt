@@ -88,19 +88,19 @@ kept_token : (P : Thread → Type 0) (ts : List Thread) → Each P (map after_re
 kept_token P ts h = subst (λ (l : List Thread). Each P l) (sym (token_as [] ts)) (keep_each P [] (map after_read ts) tt h)
 
 -- once the token is read
-record Passed (live : List Thread) (waiting : List (List Thread)) (front : List TokenKind) (k n : TokenKind) : Type 0 where
-  before : List TokenKind
-  read : List TokenKind
-  front_is : front ≡ before ++ read
-  around : Around before waiting
-  starts : Starts waiting read
-  gone : Each (Gone waiting read k n) live
+pub record Passed (live : List Thread) (waiting : List (List Thread)) (front : List TokenKind) (k n : TokenKind) : Type 0 where
+  pub before : List TokenKind
+  pub read : List TokenKind
+  pub front_is : front ≡ before ++ read
+  pub around : Around before waiting
+  pub starts : Starts waiting read
+  pub gone : Each (Gone waiting read k n) live
 
 starts_more : (waiting : List (List Thread)) (read : List TokenKind) (k : TokenKind) → Starts waiting read → Starts waiting (read ++ k ∷ [])
 starts_more [] read k s = tt
 starts_more (those ∷ waiting) read k s = (s.0 ++ k ∷ [], ap (λ (l : List TokenKind). l ++ k ∷ []) s.1)
 
-passes : (look : Look) (at : ℕ) (s : State) (front : List TokenKind) → Lasts s.live s.waiting front look.kind → Passed (read_live look at s) (read_waiting look at s) (front ++ look.kind ∷ []) look.kind look.next
+pub passes : (look : Look) (at : ℕ) (s : State) (front : List TokenKind) → Lasts s.live s.waiting front look.kind → Passed (read_live look at s) (read_waiting look at s) (front ++ look.kind ∷ []) look.kind look.next
 unfolding read_live read_waiting entered entered_waiting
 passes look at s front l = by (any_waits ready) refl
   where
@@ -135,7 +135,7 @@ passes look at s front l = by (any_waits ready) refl
 
 -- ---- a brace is closed
 
-closing_not : is_closing kind.RightBrace ≡ false → ⊥
+pub closing_not : is_closing kind.RightBrace ≡ false → ⊥
 unfolding number_of
 closing_not h = cc
 

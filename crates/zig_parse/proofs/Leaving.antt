@@ -25,7 +25,8 @@ use Rattle.zig_parse.specs.Surveys.{left, left_waiting}
 use Rattle.zig_parse.proofs.Derived.{joined_derived}
 use Rattle.zig_parse.proofs.Tables.{same_kind}
 use Rattle.zig_parse.specs.Ways.{Fork}
-use Rattle.zig_parse.proofs.Paths.{Path, path_ends, path_closes, path_rule, path_group, path_reads, path_waits, look_of, parts_of_items}
+use Rattle.zig_parse.proofs.Paths.{Path, Seen, Told, path_ends, path_closes, path_rule, path_group, path_reads, path_waits, look_of, parts_of_items}
+use Rattle.zig_parse.proofs.Layers.{Spot}
 use Rattle.zig_parse.proofs.SameParts.{same_part}
 use Rattle.zig_parse.proofs.Tidy.{tidy, is_closing, closer, is_kind_same, tidy_apart}
 use Rattle.zig_parse.proofs.Free.{own, path_own, read_own}
@@ -46,7 +47,7 @@ pub record AfterToken (low : ℕ → Type 0) (top total at : ℕ) (k : TokenKind
   pub from : List TokenKind
   pub end : List TokenKind
   pub height : ℕ
-  pub told : Bool
+  pub told : Told
   pub x : Thread
   pub before : List Thread
   pub after : List Thread
@@ -55,12 +56,13 @@ pub record AfterToken (low : ℕ → Type 0) (top total at : ℕ) (k : TokenKind
   pub outer : List Fork
   pub live_is : live ≡ before ++ x ∷ after
   pub goal_is : x.goal ≡ goal
+  pub seen : Seen told.spot (at + 1) more end x.frames x.items
   pub path : Path true low told false x (at + 1) more end height inner
-  pub shallow : told ≡ true → low (at + 1) → x.deep ≡ false
+  pub shallow : told.is ≡ true → low (at + 1) → x.deep ≡ false
   pub gone : Each (Gone root from k more) live
   pub dead : Each (Dead goal more end) before
-  pub hears : (told ≡ true) ⊎ (low (at + 1) → ⊥)
-  pub around : Around low top total waiting goal from end height root cs outer
+  pub hears : (told.is ≡ true) ⊎ (low (at + 1) → ⊥)
+  pub around : Around low top total told.spot waiting goal from end height root cs outer
   pub choices_are : ds ≡ x.choices ++ cs
   pub forks_are : forks ≡ inner ++ outer
   pub place : at + 1 + length more ≡ total
@@ -103,6 +105,7 @@ after_path low top total at k more ready waiting ds forks t =
       outer = t.outer;
       live_is = whole ∙ ap (keep_all []) all_is ∙ keeps.is;
       goal_is = goal_is;
+      seen = t.seen;
       path = t.path;
       shallow = t.shallow;
       gone = subst (Each (Gone t.root t.from k more)) (sym whole) (keep_each (Gone t.root t.from k more) [] (map after_read ready) tt all_gone);
@@ -126,14 +129,14 @@ pub record Done (t : Thread) (tokens end : List TokenKind) (height : ℕ) (forks
   pub tall : height ≡ risen 0 t.frames
   pub no_forks : forks ≡ []
 
-pub path_done : (low : ℕ → Type 0) (told calm : Bool) (t : Thread) (at : ℕ) (tokens end : List TokenKind) (height : ℕ) (forks : List Fork) → t.items ≡ [] → Path true low told calm t at tokens end height forks → Done t tokens end height forks
+pub path_done : (low : ℕ → Type 0) (told : Told) (calm : Bool) (t : Thread) (at : ℕ) (tokens end : List TokenKind) (height : ℕ) (forks : List Fork) → t.items ≡ [] → Path true low told calm t at tokens end height forks → Done t tokens end height forks
 unfolding next_move
 path_done low told calm t at tokens end height forks e (path_ends _ _ _ _ _ _) = record { ended = refl; tall = refl; no_forks = refl }
 path_done low told calm t at tokens end height forks e (path_closes _ _ _ _ _ _ _ _ g _) = absurd (let h : move.Close ≡ move.Stop = stops (look_of tokens) (length t.frames) t.items move.Close e g in cc)
 path_done low told calm t at tokens end height forks e (path_rule _ _ _ _ _ _ _ _ r _ _ g _ _ _) = absurd (let h : move.Rule r ≡ move.Stop = stops (look_of tokens) (length t.frames) t.items (move.Rule r) e g in cc)
 path_done low told calm t at tokens end height forks e (path_group _ _ _ _ _ _ _ _ r _ _ g _ _ _) = absurd (let h : move.Group r ≡ move.Stop = stops (look_of tokens) (length t.frames) t.items (move.Group r) e g in cc)
-path_done low told calm t at tokens end height forks e (path_reads _ _ _ _ k more _ _ _ g _ _ _) = absurd (let h : move.Read ≡ move.Stop = stops (look_of (k ∷ more)) (length t.frames) t.items move.Read e g in cc)
-path_done low told calm t at tokens end height forks e (path_waits _ _ _ _ more _ _ _ _ _ _ _ _ g _ _ _ _ _) = absurd (let h : move.Read ≡ move.Stop = stops (look_of (kind.LeftBrace ∷ more)) (length t.frames) t.items move.Read e g in cc)
+path_done low told calm t at tokens end height forks e (path_reads _ _ _ _ k more _ _ _ g _ _ _ _) = absurd (let h : move.Read ≡ move.Stop = stops (look_of (k ∷ more)) (length t.frames) t.items move.Read e g in cc)
+path_done low told calm t at tokens end height forks e (path_waits _ _ _ _ more _ _ _ _ _ _ _ _ _ g _ _ _ _ _ _ _) = absurd (let h : move.Read ≡ move.Stop = stops (look_of (kind.LeftBrace ∷ more)) (length t.frames) t.items move.Read e g in cc)
 
 no_parts : (is : List Item) → parts_of_items is ≡ [] → is ≡ []
 no_parts [] e = refl
@@ -142,10 +145,11 @@ no_parts (i ∷ is) e = absurd (cc)
 -- ---- what is left off
 
 -- the last token is read
-pub record Ended (top : ℕ) (k : TokenKind) (more : List TokenKind) (live : List Thread) (ds : List ℕ) (forks : List Fork) : Type 0 where
+pub record Ended (top : ℕ) (k : TokenKind) (more : List TokenKind) (live : List Thread) (waiting : List (List Thread)) (ds : List ℕ) (forks : List Fork) : Type 0 where
   pub x : Thread
   pub live_is : live ≡ x ∷ []
   pub no_tokens : more ≡ []
+  pub no_waiting : waiting ≡ []
   pub last : k ≡ kind.End
   pub tall : top ≡ risen 0 x.frames
   pub goal_is : x.goal ≡ part.Rule rule.Root
@@ -153,7 +157,7 @@ pub record Ended (top : ℕ) (k : TokenKind) (more : List TokenKind) (live : Lis
   pub choices_are : ds ≡ x.choices
 
 pub record LeftOff (low : ℕ → Type 0) (top total at : ℕ) (k : TokenKind) (more : List TokenKind) (live : List Thread) (waiting : List (List Thread)) (ds : List ℕ) (forks : List Fork) : Type 0 where
-  pub state : Tracked low top total (at + 1) more live waiting ds forks ⊎ Ended top k more live ds forks
+  pub state : Tracked low top total (at + 1) more live waiting ds forks ⊎ Ended top k more live waiting ds forks
   pub some : (spared : Bool) → verdict_of spared live ≡ verdict.Unexpected → ⊥
   pub fine : (spared : Bool) → low (at + 1) → verdict_of spared live ≡ verdict.Fine
 
@@ -237,6 +241,7 @@ stay low top total at k more live waiting ds forks t n =
         outer = t.outer;
         live_is = t.live_is;
         goal_is = t.goal_is;
+        seen = t.seen;
         path = t.path;
         shorter = tidy_shorter t.root (coming t.x) more t.end d.0 good_x.tidies busy d.1;
         good = each_kept (Gone t.root t.from k more) (Good t.root t.from more) live (λ y g. gone_good t.root t.from k more y n g) t.gone;
@@ -248,7 +253,7 @@ stay low top total at k more live waiting ds forks t n =
         place = t.place;
       });
       some = off_some live t.before t.after t.x t.live_is;
-      fine = off_fine low (at + 1) t.told live t.before t.after t.x t.live_is t.hears t.shallow;
+      fine = off_fine low (at + 1) t.told.is live t.before t.after t.x t.live_is t.hears t.shallow;
     }
 
 -- ---- the end of the file
@@ -295,12 +300,13 @@ spent_one (s ∷ ts) b a x e h = one_of s b a x (sym (spent_kept s ts h.0 h.1) �
 record Outermost (top height : ℕ) (waiting : List (List Thread)) (end : List TokenKind) (cs : List ℕ) (outer : List Fork) : Type 0 where
   height_is : height ≡ top
   end_none : end ≡ []
+  waiting_none : waiting ≡ []
   cs_none : cs ≡ []
   outer_none : outer ≡ []
 
-outermost : (low : ℕ → Type 0) (top total : ℕ) (waiting : List (List Thread)) (goal : Part) (from end : List TokenKind) (height : ℕ) (root : Bool) (cs : List ℕ) (outer : List Fork) → root ≡ true → Around low top total waiting goal from end height root cs outer → Outermost top height waiting end cs outer
-outermost low top total waiting goal from end height root cs outer e (at_root _) = record { height_is = refl; end_none = refl; cs_none = refl; outer_none = refl }
-outermost low top total waiting goal from end height root cs outer e (in_brace _ _ _ _ _ _ _ _ _ _ _ _ _ _ _ _ _ _ _ _ _ _ _ _ _ _ _ _ _) = absurd (cc)
+outermost : (low : ℕ → Type 0) (top total : ℕ) (spot : Spot) (waiting : List (List Thread)) (goal : Part) (from end : List TokenKind) (height : ℕ) (root : Bool) (cs : List ℕ) (outer : List Fork) → root ≡ true → Around low top total spot waiting goal from end height root cs outer → Outermost top height waiting end cs outer
+outermost low top total spot waiting goal from end height root cs outer e (at_root _ _ _) = record { height_is = refl; end_none = refl; waiting_none = refl; cs_none = refl; outer_none = refl }
+outermost low top total spot waiting goal from end height root cs outer e (in_brace _ _ _ _ _ _ _ _ _ _ _ _ _ _ _ _ _ _ _ _ _ _ _ _ _ _ _ _ _ _ _ _ _) = absurd (cc)
 
 root_of : (root : Bool) (k : TokenKind) → k ≡ closer root → is_kind k kind.RightBrace ≡ false → root ≡ true
 root_of true k e n = refl
@@ -312,7 +318,7 @@ finish low top total at k more live waiting ds forks t c n =
     let gone_x : Gone t.root t.from k more t.x = each_at (Gone t.root t.from k more) t.before t.after t.x (subst (Each (Gone t.root t.from k more)) t.live_is t.gone) in
     let none_x = gone_none t.root t.from k more t.x c gone_x in
     let root : t.root ≡ true = root_of t.root k none_x.0 n in
-    let out = outermost low top total waiting t.goal t.from t.end t.height t.root t.cs t.outer root t.around in
+    let out = outermost low top total t.told.spot waiting t.goal t.from t.end t.height t.root t.cs t.outer root t.around in
     let done = path_done low t.told false t.x (at + 1) more t.end t.height t.inner (no_parts t.x.items none_x.1) t.path in
     let spent : Each IsSpent t.kept.0 = each_kept (Gone t.root t.from k more) IsSpent t.kept.0 (λ y g. (g.rooted root, no_parts y.items (gone_none t.root t.from k more y c g).1)) t.kept.2 in
     let one = spent_one t.kept.0 t.before t.after t.x (sym t.kept.1 ∙ t.live_is) spent in
@@ -322,6 +328,7 @@ finish low top total at k more live waiting ds forks t c n =
         x = t.x;
         live_is = live_one;
         no_tokens = done.ended ∙ out.end_none;
+        no_waiting = out.waiting_none;
         last = none_x.0 ∙ ap closer root;
         tall = sym out.height_is ∙ done.tall;
         goal_is = gone_x.rooted root;
@@ -329,7 +336,7 @@ finish low top total at k more live waiting ds forks t c n =
         choices_are = t.choices_are ∙ ap (λ (l : List ℕ). t.x.choices ++ l) out.cs_none ∙ append-nil t.x.choices;
       });
       some = off_some live t.before t.after t.x t.live_is;
-      fine = off_fine low (at + 1) t.told live t.before t.after t.x t.live_is t.hears t.shallow;
+      fine = off_fine low (at + 1) t.told.is live t.before t.after t.x t.live_is t.hears t.shallow;
     }
 
 -- ---- the end of a brace
@@ -447,15 +454,15 @@ record GoesOn (low : ℕ → Type 0) (top total at : ℕ) (k : TokenKind) (more 
   waiting_is : waiting ≡ those ∷ others
   off : LeftOff low top total at k more (resumed found [] those) others ds forks
 
-go_on : (low : ℕ → Type 0) (top total at : ℕ) (k : TokenKind) (more : List TokenKind) (live : List Thread) (ds : List ℕ) (x : Thread) (before after : List Thread) (inner : List Fork) (told : Bool)
+go_on : (low : ℕ → Type 0) (top total at : ℕ) (k : TokenKind) (more : List TokenKind) (live : List Thread) (ds : List ℕ) (x : Thread) (before after : List Thread) (inner : List Fork) (spot : Spot)
     → (waiting : List (List Thread)) (p : Part) (from mid : List TokenKind) (inner_height : ℕ) (root : Bool) (ocs : List ℕ) (oforks : List Fork)
-    → Around low top total waiting p from mid inner_height root ocs oforks → root ≡ false
+    → Around low top total spot waiting p from mid inner_height root ocs oforks → root ≡ false
     → live ≡ before ++ x ∷ after → x.goal ≡ p → Each (IsRead from mid) live → Each (λ (y : Thread). y.goal ≡ p → ⊥) before → Done x more mid inner_height inner
     → at + 1 + length more ≡ total → ds ≡ x.choices ++ ocs → (forks : List Fork) → forks ≡ inner ++ oforks
     → GoesOn low top total at k more (map finished live) waiting ds forks
-go_on low top total at k more live ds x before after inner told waiting p from mid inner_height root ocs oforks (at_root _) r live_is goal_is reads firsts done place ds_is forks forks_is = absurd (cc)
-go_on low top total at k more live ds x before after inner told waiting p from mid inner_height root ocs oforks
-    (in_brace those b a others w _ goal begin _ _ end w_told w_root w_at _ height cs outer forks_after those_is w_waits w_goal dead good shallow path w_place hears around) r live_is goal_is reads firsts done place ds_is forks forks_is =
+go_on low top total at k more live ds x before after inner spot waiting p from mid inner_height root ocs oforks (at_root _ _ _) r live_is goal_is reads firsts done place ds_is forks forks_is = absurd (cc)
+go_on low top total at k more live ds x before after inner spot waiting p from mid inner_height root ocs oforks
+    (in_brace those b a others w _ goal begin _ _ end w_told w_root w_at _ height begin_at base cs outer forks_after those_is w_waits w_goal dead good shallow awaits seen path w_place hears around) r live_is goal_is reads firsts done place ds_is forks forks_is =
     let found = map finished live in
     let h = own_height p inner_height in
     let y = with_choices x.choices (received h w) in
@@ -469,8 +476,12 @@ go_on low top total at k more live ds x before after inner told waiting p from m
     subst (λ (n : ℕ). Path true low w_told false y n more end height outer) here
     (subst (λ (l : List TokenKind). Path true low w_told false y w_at l end height outer) mid_is
     (subst (λ (u : Thread). Path true low w_told false u w_at mid end height outer) (sym (received_choices x.choices h w)) (path_own true low w_told false (received h w) w_at mid end height outer (x.choices ++ w.choices) path))) in
-    let y_shallow : w_told ≡ true → low (at + 1) → y.deep ≡ false = (λ t l. shallow t (subst low (sym here) l)) in
-    let y_hears : (w_told ≡ true) ⊎ (low (at + 1) → ⊥) = subst (λ (n : ℕ). (w_told ≡ true) ⊎ (low n → ⊥)) here hears in
+    let y_seen : Seen w_told.spot (at + 1) more end y.frames y.items =
+    subst (λ (n : ℕ). Seen w_told.spot n more end y.frames y.items) here
+    (subst (λ (l : List TokenKind). Seen w_told.spot w_at l end y.frames y.items) mid_is
+    (subst (λ (u : Thread). Seen w_told.spot w_at mid end u.frames u.items) (sym (received_choices x.choices h w)) seen)) in
+    let y_shallow : w_told.is ≡ true → low (at + 1) → y.deep ≡ false = (λ t l. shallow t (subst low (sym here) l)) in
+    let y_hears : (w_told.is ≡ true) ⊎ (low (at + 1) → ⊥) = subst (λ (n : ℕ). (w_told.is ≡ true) ⊎ (low n → ⊥)) here hears in
     let y_goal : y.goal ≡ goal = (received_keeps h w).1 ∙ w_goal in
     let goods : Each (Good w_root begin mid) (all_go_on found those) = go_on_each (Good w_root begin from) (Good w_root begin mid) found those (λ t q f g v e. on_good w_root begin from mid live t q f reads g v e) good in
     let deads : Each (Dead goal mid end) (all_go_on found b) = go_on_each (Dead goal from end) (Dead goal mid end) found b (λ t q f g v e. on_dead goal from mid end live t q f reads g v e) dead in
@@ -502,6 +513,7 @@ go_on low top total at k more live ds x before after inner told waiting p from m
           outer = forks_after;
           live_is = live_now;
           goal_is = y_goal;
+          seen = y_seen;
           path = y_path;
           shorter = tidy_shorter w_root (coming y) more end d.0 (subst (λ (l : List Part). tidy w_root l ≡ true) (sym y_coming) t2.0) (λ e. t2.1 (sym y_coming ∙ e)) d.1;
           good = subst (Each (Good w_root begin more)) (sym whole) (keep_each (Good w_root begin more) [] (all_go_on found those) tt (subst (λ (l : List TokenKind). Each (Good w_root begin l) (all_go_on found those)) mid_is goods));
@@ -513,7 +525,7 @@ go_on low top total at k more live ds x before after inner told waiting p from m
           place = place;
         });
         some = off_some (resumed found [] those) keeps.before keeps.after y live_now;
-        fine = off_fine low (at + 1) w_told (resumed found [] those) keeps.before keeps.after y live_now y_hears y_shallow;
+        fine = off_fine low (at + 1) w_told.is (resumed found [] those) keeps.before keeps.after y live_now y_hears y_shallow;
       };
     }
 
@@ -546,7 +558,7 @@ leave_brace low top total at k more live waiting ds forks t h =
     let both = each_both (Dead t.goal more t.end) (λ (y : Thread). y.items ≡ []) t.before t.dead (each_front (λ (y : Thread). y.items ≡ []) t.before (t.x ∷ t.after) none_all) in
     let firsts : Each (λ (y : Thread). y.goal ≡ t.goal → ⊥) t.before = each_kept _ (λ (y : Thread). y.goal ≡ t.goal → ⊥) t.before
     (λ y g e. g.0 e nothing (subst (λ (l : List Part). Derives l more t.end nothing) (ap parts_of_items (sym g.1)) (subst (λ (l : List TokenKind). Derives [] more l nothing) done.ended (derives_none more)))) both in
-    let on = go_on low top total at k more live ds t.x t.before t.after t.inner t.told waiting t.goal t.from t.end t.height t.root t.cs t.outer t.around root t.live_is t.goal_is reads firsts done t.place t.choices_are forks t.forks_are in
+    let on = go_on low top total at k more live ds t.x t.before t.after t.inner t.told.spot waiting t.goal t.from t.end t.height t.root t.cs t.outer t.around root t.live_is t.goal_is reads firsts done t.place t.choices_are forks t.forks_are in
     let same = outwards look live on.those waiting on.others closed on.waiting_is in
     subst (λ (l : List Thread). LeftOff low top total at k more l (left_waiting look live waiting) ds forks) (sym same.0)
     (subst (λ (l : List (List Thread)). LeftOff low top total at k more (resumed (map finished live) [] on.those) l ds forks) (sym same.1) on.off)

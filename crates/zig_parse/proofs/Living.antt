@@ -1,5 +1,5 @@
 -- What holds of the threads in a brace, before and after a token, and of those that wait around it.
-use Rattle.std.proofs.Common.{◌≡◌, ℕ, ◌+◌, ◌<◌, Bool, true, false, ◌&&◌, ◌⊎◌, inr, List, [], ◌∷◌, ◌++◌, length, Some, None, refl, sym, ◌∙◌, ap, subst, arith}
+use Rattle.std.proofs.Common.{◌≡◌, ℕ, ◌+◌, ◌<◌, Bool, true, false, ◌&&◌, ◌⊎◌, inr, List, [], ◌∷◌, ◌++◌, length, take, Some, None, refl, sym, ◌∙◌, ap, subst, arith}
 use Rattle.std.specs.Prelude.{not}
 use Rattle.std.proofs.lemmas.Bool.{and_parts}
 use Rattle.zig_tree.specs.declared.token.TokenKind.{TokenKind}
@@ -11,7 +11,7 @@ use Rattle.zig_tree.specs.declared.grammar.Part.{Part}
 use Rattle.zig_tree.specs.declared.grammar.Part.TheVariants as part
 use Rattle.zig_tree.specs.Kinds.{number_of}
 use Rattle.zig_tree.specs.Grammar.{group_rows}
-use Rattle.zig_tree.specs.GrammarSentences.{Pieces, word, Derives}
+use Rattle.zig_tree.specs.GrammarSentences.{AreShallow, Pieces, word, Derives}
 use Rattle.zig_parse.specs.declared.thread.Item.{Item}
 use Rattle.zig_parse.specs.declared.thread.Thread.{Thread}
 use Rattle.zig_parse.specs.declared.thread.Move.TheVariants as move
@@ -23,7 +23,8 @@ use Rattle.zig_parse.proofs.Derived.{each_row, row_tested, group_derived, no_lon
 use Rattle.zig_parse.proofs.Shapes.{row_fills}
 use Rattle.zig_parse.proofs.Balance.{reads_some}
 use Rattle.zig_parse.specs.Ways.{Fork}
-use Rattle.zig_parse.proofs.Paths.{Path, look_of, parts_of_items}
+use Rattle.zig_parse.proofs.Paths.{Awaits, Seen, Told, Path, look_of, parts_of_items}
+use Rattle.zig_parse.proofs.Layers.{Spot, inside_spot, root_spot}
 use Rattle.zig_parse.proofs.Tidy.{tidy, is_last, is_body, is_plain, Left, tidy_read}
 use Rattle.zig_parse.proofs.Moving.{coming, Each, each_kept, Comes, moving_come, settled_each, read_keeps, reads_front, fits_derives}
 use Rattle.zig_parse.proofs.Opening.{Five, five_block, five_initializer, five_body, five_errors, five_switch, body, opens}
@@ -211,13 +212,15 @@ begun_gone more p depth f =
 -- What waits around a brace: for each open brace the threads that wait for its end, and among them the one
 -- of a path. The inner part is read from the brace up to `mid`, and has so many nodes one in the other; in
 -- the end the file has `top`.
-pub data Around (low : ℕ → Type 0) (top total : ℕ) : List (List Thread) → Part → List TokenKind → List TokenKind → ℕ → Bool → List ℕ → List Fork → Type 0 where
-  at_root : (from : List TokenKind) → Around low top total [] (part.Rule rule.Root) from [] top true [] []
-  in_brace : (those before after : List Thread) (others : List (List Thread)) (x : Thread) (p goal : Part) (begin from mid end : List TokenKind) (told root : Bool) (at inner_height height : ℕ) (cs : List ℕ) (outer forks : List Fork)
+pub data Around (low : ℕ → Type 0) (top total : ℕ) : Spot → List (List Thread) → Part → List TokenKind → List TokenKind → ℕ → Bool → List ℕ → List Fork → Type 0 where
+  at_root : (depths : List ℕ) (from : List TokenKind) → ((n : ℕ) → AreShallow (take n depths) → low n) → Around low top total (root_spot depths) [] (part.Rule rule.Root) from [] top true [] []
+  in_brace : (those before after : List Thread) (others : List (List Thread)) (x : Thread) (p goal : Part) (begin from mid end : List TokenKind) (told : Told) (root : Bool) (at inner_height height begin_at base : ℕ) (cs : List ℕ) (outer forks : List Fork)
       → those ≡ before ++ x ∷ after → waits_for x ≡ Some p → x.goal ≡ goal
       → Each (Dead goal from end) before → Each (Good root begin from) those
-      → (told ≡ true → low at → (received (own_height p inner_height) x).deep ≡ false)
+      → (told.is ≡ true → low at → (received (own_height p inner_height) x).deep ≡ false)
+      → Awaits told.spot begin_at mid end x.frames x.items p base
+      → Seen told.spot at mid end (received (own_height p inner_height) x).frames (received (own_height p inner_height) x).items
       → Path true low told false (received (own_height p inner_height) x) at mid end height outer
-      → at + length mid ≡ total → (told ≡ true) ⊎ (low at → ⊥)
-      → Around low top total others goal begin end height root cs forks
-      → Around low top total (those ∷ others) p from mid inner_height false (x.choices ++ cs) (outer ++ forks)
+      → at + length mid ≡ total → (told.is ≡ true) ⊎ (low at → ⊥)
+      → Around low top total told.spot others goal begin end height root cs forks
+      → Around low top total (inside_spot told.spot begin_at base) (those ∷ others) p from mid inner_height false (x.choices ++ cs) (outer ++ forks)

@@ -22,7 +22,7 @@ use Rattle.zig_parse.specs.Choices.{choices, matching}
 use Rattle.zig_parse.specs.Passes.{begun, own_height}
 use Rattle.zig_parse.proofs.Derived.{joined_derived}
 use Rattle.zig_parse.specs.Ways.{Fork, Taken, taken_sole, taken_first, taken_second}
-use Rattle.zig_parse.proofs.Paths.{Path, path_ends, path_closes, path_rule, path_group, path_reads, path_waits, look_of, parts_of_items, is_cons}
+use Rattle.zig_parse.proofs.Paths.{Told, within, Path, path_ends, path_closes, path_rule, path_group, path_reads, path_waits, look_of, parts_of_items, is_cons}
 use Rattle.zig_parse.proofs.Tidy.{tidy}
 use Rattle.zig_parse.proofs.Moving.{coming, closed_keeps, met_part_keeps, read_keeps, received_keeps, rule_comes, group_comes, reads_front, waits_front, fits_derives}
 
@@ -141,7 +141,7 @@ taken_among later tokens end rows a choices (taken_second _ b f) = inr (inl refl
 no_items : (t : Thread) (end : List TokenKind) → t.items ≡ [] → (p : Pieces) × Derives (coming t) end end p
 no_items t end e = (nothing, subst (λ (l : List Part). Derives l end end nothing) (ap parts_of_items (sym e)) (derives_none end))
 
-pub path_derives : (low : ℕ → Type 0) (told calm : Bool) (t : Thread) (at : ℕ) (tokens end : List TokenKind) (height : ℕ) (forks : List Fork) → Path true low told calm t at tokens end height forks → (p : Pieces) × Derives (coming t) tokens end p
+pub path_derives : (low : ℕ → Type 0) (told : Told) (calm : Bool) (t : Thread) (at : ℕ) (tokens end : List TokenKind) (height : ℕ) (forks : List Fork) → Path true low told calm t at tokens end height forks → (p : Pieces) × Derives (coming t) tokens end p
 path_derives low told calm t at tokens end height forks (path_ends _ _ _ _ _ e) = no_items t end e
 path_derives low told calm t at tokens end height forks (path_closes _ _ _ _ _ _ _ _ h more) =
     let d = path_derives low told calm (closed t) at tokens end height forks more in
@@ -152,20 +152,20 @@ path_derives low told calm t at tokens end height forks (path_rule _ _ _ _ _ _ _
 path_derives low told calm t at tokens end height forks (path_group _ _ _ _ _ _ _ later g a choices h c k more) =
     let d = path_derives low told (calm || is_cons choices) (replaced None a.parts t) at tokens end height later more in
     (group_comes tokens t g a h (taken_among _ tokens end (open_at tokens (group_rows g)) a choices k)).back end d.0 d.1
-path_derives low told calm t at tokens end height forks (path_reads _ _ _ _ k left _ _ _ h w f more) =
+path_derives low told calm t at tokens end height forks (path_reads _ _ _ _ k left _ _ _ h w f seen more) =
     let d = path_derives low told false (after_read t) (at + 1) left end height forks more in
     let s = reads_front (look_of (k ∷ left)) t h w in (
       word k d.0,
       subst (λ (l : List Part). Derives l (k ∷ left) end (word k d.0)) (sym s.first)
           (fits_derives s.p (parts_of_items (rest t.items)) k left end d.0 s.fits (subst (λ l. Derives (parts_of_items l) left end d.0) (read_keeps t).0 d.1)),
     )
-path_derives low told calm t at tokens end height forks (path_waits _ _ _ _ left mid _ _ inner_height inner outer p ap_true h w f go g more) =
+path_derives low told calm t at tokens end height forks (path_waits _ _ _ _ left mid _ _ inner_height inner outer p base ap_true h w f awaits go g seen more) =
     let whole = kind.LeftBrace ∷ left in
     let x = met_part p t in
     let d = path_derives low told false (received (own_height p inner_height) x) (at + (length whole - length mid)) mid end height outer more in
     let s = waits_front t p w in
     let o = opens whole p 0 (apart_five p s.apart) in
-    let i = path_derives low false false (begun (look_of whole) p 0) at whole mid inner_height inner (go 0 false (λ e. absurd (cc))) in
+    let i = path_derives low (within told false at base) false (begun (look_of whole) p 0) at whole mid inner_height inner (go 0 false (λ e. absurd (cc))) in
     let j = o.derives mid i.0 (subst (λ (l : List Part). Derives l whole mid i.0) o.first i.1) in
     let same = (received_keeps (own_height p inner_height) x).0 ∙ ap rest (met_part_keeps p t).0 in (
       followed j.0 d.0,

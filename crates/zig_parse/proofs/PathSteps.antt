@@ -26,7 +26,7 @@ use Rattle.zig_parse.proofs.Balance.{reads_some}
 use Rattle.zig_parse.proofs.Spelled.{amount}
 use Rattle.zig_parse.proofs.Story.{amount_followed, group_keeps_led, led_first, led_rest, made_one, one_amount, piece_amount, several, worded}
 use Rattle.zig_parse.specs.Ways.{Fork, Taken, noted}
-use Rattle.zig_parse.proofs.Paths.{look_of, parts_of_items, is_cons, Path, path_closes, path_rule, path_group, path_reads}
+use Rattle.zig_parse.proofs.Paths.{Seen, Told, look_of, parts_of_items, is_cons, Path, path_closes, path_rule, path_group, path_reads}
 use Rattle.zig_parse.proofs.Depths.{words, words_followed, words_made, words_read, derived_full, full_made, Lies, lies_left, lies_right, lies_made, IsLow, next_low, read_low}
 use Rattle.zig_parse.proofs.Calm.{is_calm_rule, starts_calm, rule_forks, group_forks, fork_starts, calm_starts, is_free, is_free_group, lone_row_free, group_row_free, taken_among}
 use Rattle.zig_parse.proofs.Follows.{Closes, closes_none, closes_one, closes_items, closes_fewer, Stands, Begins, met_begins, met_frame, hard_frame, makes, new_frame, open_stands, read_stands, read_shallow}
@@ -50,7 +50,7 @@ unfolding next_move
 next_closes apart tokens t level q is e h = ap (move_from (look_of tokens) apart (length t.frames)) e ∙ close_first apart tokens level (length t.frames) q is h
 
 -- nodes that are done are closed before the first of what is to come
-pub path_closing : (apart : Bool) (low : ℕ → Type 0) (told calm : Bool) (t u : Thread) (at : ℕ) (tokens end : List TokenKind) (height : ℕ) (forks : List Fork) (q : Part) (is : List Item)
+pub path_closing : (apart : Bool) (low : ℕ → Type 0) (told : Told) (calm : Bool) (t u : Thread) (at : ℕ) (tokens end : List TokenKind) (height : ℕ) (forks : List Fork) (q : Part) (is : List Item)
     → Closes t u → u.items ≡ item (length u.frames) q ∷ is → Path apart low told calm u at tokens end height forks → Path apart low told calm t at tokens end height forks
 path_closing apart low told calm t u at tokens end height forks q is (closes_none _) e p = p
 path_closing apart low told calm t u at tokens end height forks q is (closes_one _ _ f g fs h c) e p =
@@ -81,7 +81,7 @@ touched_items t (f ∷ fs) = by f.solid
     by true = refl
     by false = refl
 
-read_items : (t : Thread) → (after_read t).items ≡ rest t.items
+pub read_items : (t : Thread) → (after_read t).items ≡ rest t.items
 unfolding after_read
 read_items t = touched_items (passed t) t.frames
 
@@ -110,11 +110,11 @@ pub record Ready (low : ℕ → Type 0) (told calm : Bool) (ps behind : List Par
   pub within : base + count (makes lone whole) ≤ depth
 
 -- what goes on after them
-abbrev pub Goes : (low : ℕ → Type 0) (told : Bool) (fs : List Frame) (lone is_node : Bool) (base depth : ℕ) (later : List Item) (next end : List TokenKind) (height : ℕ) (outer : List Fork) → ℕ → Pieces → ℕ → Type 0
+abbrev pub Goes : (low : ℕ → Type 0) (told : Told) (fs : List Frame) (lone is_node : Bool) (base depth : ℕ) (later : List Item) (next end : List TokenKind) (height : ℕ) (outer : List Fork) → ℕ → Pieces → ℕ → Type 0
 Goes low told fs lone is_node base depth later next end height outer at had tall =
-    (t : Thread) (g : Frame) → Stands low told t at g fs had lone is_node base depth → t.items ≡ later → g.height ≡ tall → Path true low told false t at next end height outer
+    (t : Thread) (g : Frame) → Stands low told.is t at g fs had lone is_node base depth → t.items ≡ later → g.height ≡ tall → Path true low told false t at next end height outer
 
-pub goes_as : (low : ℕ → Type 0) (told : Bool) (fs : List Frame) (lone is_node : Bool) (base depth : ℕ) (later : List Item) (next end : List TokenKind) (height : ℕ) (outer : List Fork) (m n : ℕ) (p q : Pieces) (x y : ℕ) → m ≡ n → p ≡ q → x ≡ y
+pub goes_as : (low : ℕ → Type 0) (told : Told) (fs : List Frame) (lone is_node : Bool) (base depth : ℕ) (later : List Item) (next end : List TokenKind) (height : ℕ) (outer : List Fork) (m n : ℕ) (p q : Pieces) (x y : ℕ) → m ≡ n → p ≡ q → x ≡ y
     → Goes low told fs lone is_node base depth later next end height outer m p x → Goes low told fs lone is_node base depth later next end height outer n q y
 goes_as low told fs lone is_node base depth later next end height outer m n p q x y e h k goes =
     subst (λ (i : ℕ). Goes low told fs lone is_node base depth later next end height outer i q y) e
@@ -123,12 +123,12 @@ goes_as low told fs lone is_node base depth later next end height outer m n p q 
 
 -- ---- nothing is to come
 
-done_by : (low : ℕ → Type 0) (told calm : Bool) (t : Thread) (at : ℕ) (next end : List TokenKind) (height : ℕ) (outer : List Fork) → (calm ≡ true → false ≡ true) → Path true low told false t at next end height outer → Path true low told calm t at next end height outer
+done_by : (low : ℕ → Type 0) (told : Told) (calm : Bool) (t : Thread) (at : ℕ) (next end : List TokenKind) (height : ℕ) (outer : List Fork) → (calm ≡ true → false ≡ true) → Path true low told false t at next end height outer → Path true low told calm t at next end height outer
 done_by low told true t at next end height outer h p = absurd (let e = h refl in cc)
 done_by low told false t at next end height outer h p = p
 
-pub none_path : (low : ℕ → Type 0) (behind : List Part) (next end : List TokenKind) (told calm : Bool) (t : Thread) (at : ℕ) (f : Frame) (fs : List Frame) (had after whole : Pieces) (lone : Bool) (base depth : ℕ) (qs : List Part) (later : List Item) (height : ℕ) (outer : List Fork)
-    → Ready low told calm [] behind nothing t at f fs had after whole lone base depth qs later
+pub none_path : (low : ℕ → Type 0) (behind : List Part) (next end : List TokenKind) (told : Told) (calm : Bool) (t : Thread) (at : ℕ) (f : Frame) (fs : List Frame) (had after whole : Pieces) (lone : Bool) (base depth : ℕ) (qs : List Part) (later : List Item) (height : ℕ) (outer : List Fork)
+    → Ready low told.is calm [] behind nothing t at f fs had after whole lone base depth qs later
     → Goes low told fs lone (makes lone whole) base depth later next end height outer (at + 0) (followed had nothing) (max f.height 0)
     → Path true low told calm t at next end height outer
 none_path low behind next end told calm t at f fs had after whole lone base depth qs later height outer r goes =
@@ -138,11 +138,11 @@ none_path low behind next end told calm t at f fs had after whole lone base dept
 
 -- ---- a token
 
-one_makes : (lone : Bool) (whole : Pieces) → is_one_node whole ≡ false → makes lone whole ≡ true
+pub one_makes : (lone : Bool) (whole : Pieces) → is_one_node whole ≡ false → makes lone whole ≡ true
 one_makes true whole h = rw h refl
 one_makes false whole h = refl
 
-token_makes : (lone : Bool) (whole had later after : Pieces) (k : TokenKind) → whole ≡ followed had (followed (word k later) after) → makes lone whole ≡ true
+pub token_makes : (lone : Bool) (whole had later after : Pieces) (k : TokenKind) → whole ≡ followed had (followed (word k later) after) → makes lone whole ≡ true
 token_makes lone whole had later after k e = one_makes lone whole (subst (λ (x : Pieces). is_one_node x ≡ false) (sym e) (worded had (followed later after) k))
 
 -- the state after a token
@@ -164,17 +164,17 @@ token_ready low falls q ps behind k p told calm t at f fs had after whole lone b
       within = r.within;
     }
 
-pub token_path : (low : ℕ → Type 0) (falls : (n m : ℕ) → n ≤ m → low m → low n) (q : Part) (ps behind : List Part) (k : TokenKind) (tokens end : List TokenKind) (p : Pieces) (told calm : Bool) (t : Thread) (at : ℕ) (f : Frame) (fs : List Frame) (had after whole : Pieces) (lone : Bool) (base depth : ℕ) (qs : List Part) (later : List Item) (height : ℕ) (forks : List Fork)
-    → is_apart q ≡ false → move_at (look_of (k ∷ tokens)) true q ≡ move.Read → (r : Ready low told calm (q ∷ ps) behind (word k p) t at f fs had after whole lone base depth qs later)
-    → Path true low told false (after_read r.stands.u) (at + 1) tokens end height forks
+pub token_path : (low : ℕ → Type 0) (falls : (n m : ℕ) → n ≤ m → low m → low n) (q : Part) (ps behind : List Part) (k : TokenKind) (tokens end : List TokenKind) (p : Pieces) (told : Told) (calm : Bool) (t : Thread) (at : ℕ) (f : Frame) (fs : List Frame) (had after whole : Pieces) (lone : Bool) (base depth : ℕ) (qs : List Part) (later : List Item) (height : ℕ) (forks : List Fork)
+    → is_apart q ≡ false → move_at (look_of (k ∷ tokens)) true q ≡ move.Read → (r : Ready low told.is calm (q ∷ ps) behind (word k p) t at f fs had after whole lone base depth qs later)
+    → Seen told.spot (at + 1) tokens end (after_read r.stands.u).frames (after_read r.stands.u).items → Path true low told false (after_read r.stands.u) (at + 1) tokens end height forks
     → Path true low told calm t at (k ∷ tokens) end height forks
-token_path low falls q ps behind k tokens end p told calm t at f fs had after whole lone base depth qs later height forks free reads r path =
+token_path low falls q ps behind k tokens end p told calm t at f fs had after whole lone base depth qs later height forks free reads r seen path =
     let u = r.stands.u in
     let e : u.items ≡ item (suc (length fs)) q ∷ (map (item (suc (length fs))) ps ++ later) = sym (closes_items t u r.stands.closes) ∙ r.items in
     path_closing true low told calm t u at (k ∷ tokens) end height forks q (map (item (suc (length fs))) ps ++ later) r.stands.closes (e ∙ ap (λ (l : List Frame). item (length l) q ∷ (map (item (suc (length fs))) ps ++ later)) (sym r.stands.frames))
     (path_reads told calm u at k tokens end height forks (next_is true (k ∷ tokens) u f fs q (map (item (suc (length fs))) ps ++ later) r.stands.frames e ∙ reads)
     (waits_none u (item (suc (length fs)) q) (map (item (suc (length fs))) ps ++ later) e free)
-    (read_shallow low told t at f fs had lone (makes lone whole) base depth falls r.stands r.within (next_low low at depth (word k p) (omega arith) r.lies) (token_makes lone whole had p after k r.whole_is)) path)
+    (read_shallow low told.is t at f fs had lone (makes lone whole) base depth falls r.stands r.within (next_low low at depth (word k p) (omega arith) r.lies) (token_makes lone whole had p after k r.whole_is)) seen path)
 
 -- ---- a group
 
@@ -277,25 +277,25 @@ pub first_item : (low : ℕ → Type 0) (told calm : Bool) (q : Part) (ps behind
 first_item low told calm q ps behind p t at f fs had after whole lone base depth qs later r = sym (closes_items t r.stands.u r.stands.closes) ∙ r.items
 
 -- from the thread that has closed what is done
-pub from_closed : (low : ℕ → Type 0) (told calm calm2 : Bool) (q : Part) (ps behind : List Part) (p : Pieces) (t : Thread) (at : ℕ) (tokens end : List TokenKind) (f : Frame) (fs : List Frame) (had after whole : Pieces) (lone : Bool) (base depth : ℕ) (qs : List Part) (later : List Item) (height : ℕ) (forks : List Fork)
-    → (r : Ready low told calm (q ∷ ps) behind p t at f fs had after whole lone base depth qs later) → Path true low told calm2 r.stands.u at tokens end height forks → Path true low told calm2 t at tokens end height forks
+pub from_closed : (low : ℕ → Type 0) (told : Told) (calm calm2 : Bool) (q : Part) (ps behind : List Part) (p : Pieces) (t : Thread) (at : ℕ) (tokens end : List TokenKind) (f : Frame) (fs : List Frame) (had after whole : Pieces) (lone : Bool) (base depth : ℕ) (qs : List Part) (later : List Item) (height : ℕ) (forks : List Fork)
+    → (r : Ready low told.is calm (q ∷ ps) behind p t at f fs had after whole lone base depth qs later) → Path true low told calm2 r.stands.u at tokens end height forks → Path true low told calm2 t at tokens end height forks
 from_closed low told calm calm2 q ps behind p t at tokens end f fs had after whole lone base depth qs later height forks r path =
-    let e = first_item low told calm q ps behind p t at f fs had after whole lone base depth qs later r in
+    let e = first_item low told.is calm q ps behind p t at f fs had after whole lone base depth qs later r in
     path_closing true low told calm2 t r.stands.u at tokens end height forks q (map (item (suc (length fs))) ps ++ later) r.stands.closes
     (e ∙ ap (λ (l : List Frame). item (length l) q ∷ (map (item (suc (length fs))) ps ++ later)) (sym r.stands.frames)) path
 
-pub group_path : (low : ℕ → Type 0) (told calm : Bool) (g : Group) (a : Alternative) (ps behind : List Part) (tokens end : List TokenKind) (p : Pieces) (choices : List Bool) (t : Thread) (at : ℕ) (f : Frame) (fs : List Frame) (had after whole : Pieces) (lone : Bool) (base depth : ℕ) (qs : List Part) (later : List Item) (height : ℕ) (inner outer last : List Fork)
-    → has_braces g ≡ false → Taken (ps ++ behind) tokens end (open_at tokens (group_rows g)) a choices → (r : Ready low told calm (part.Group g ∷ ps) behind p t at f fs had after whole lone base depth qs later)
+pub group_path : (low : ℕ → Type 0) (told : Told) (calm : Bool) (g : Group) (a : Alternative) (ps behind : List Part) (tokens end : List TokenKind) (p : Pieces) (choices : List Bool) (t : Thread) (at : ℕ) (f : Frame) (fs : List Frame) (had after whole : Pieces) (lone : Bool) (base depth : ℕ) (qs : List Part) (later : List Item) (height : ℕ) (inner outer last : List Fork)
+    → has_braces g ≡ false → Taken (ps ++ behind) tokens end (open_at tokens (group_rows g)) a choices → (r : Ready low told.is calm (part.Group g ∷ ps) behind p t at f fs had after whole lone base depth qs later)
     → Path true low told (calm || is_cons choices) (replaced None a.parts r.stands.u) at tokens end height (inner ++ (outer ++ last))
     → Path true low told calm t at tokens end height ((noted tokens choices ++ (inner ++ outer)) ++ last)
 group_path low told calm g a ps behind tokens end p choices t at f fs had after whole lone base depth qs later height inner outer last free taken r path =
     let u = r.stands.u in
     let behind_items = map (item (suc (length fs))) ps ++ later in
-    let parts = ap parts_of_items (rest_is low told calm (part.Group g) ps behind p t at f fs had after whole lone base depth qs later r) ∙ parts_joined (suc (length fs)) ps later behind r.come in
+    let parts = ap parts_of_items (rest_is low told.is calm (part.Group g) ps behind p t at f fs had after whole lone base depth qs later r) ∙ parts_joined (suc (length fs)) ps later behind r.come in
     subst (Path true low told calm t at tokens end height) (sym (forks_joined (noted tokens choices) inner outer last))
     (from_closed low told calm calm (part.Group g) ps behind p t at tokens end f fs had after whole lone base depth qs later height (noted tokens choices ++ (inner ++ (outer ++ last))) r
     (path_group told calm u at tokens end height (inner ++ (outer ++ last)) g a choices
-    (next_is true tokens u f fs (part.Group g) behind_items r.stands.frames (first_item low told calm (part.Group g) ps behind p t at f fs had after whole lone base depth qs later r) ∙ group_move (is_kind (next_kind tokens) LeftBrace) g free)
+    (next_is true tokens u f fs (part.Group g) behind_items r.stands.frames (first_item low told.is calm (part.Group g) ps behind p t at f fs had after whole lone base depth qs later r) ∙ group_move (is_kind (next_kind tokens) LeftBrace) g free)
     (group_none calm choices r.starts) (as_taken (ps ++ behind) (parts_of_items (rest u.items)) tokens end (open_at tokens (group_rows g)) a choices parts taken) path))
 
 -- ---- a rule
@@ -403,16 +403,16 @@ after_rule low told calm r ps behind inside p t t2 at f f2 fs had after whole lo
 rule_move : (look_kind : Bool) (r : Rule) → is_braced r ≡ false → (if true && is_braced r then reading look_kind else move.Rule r) ≡ move.Rule r
 rule_move look_kind r h = rw h refl
 
-pub rule_path : (low : ℕ → Type 0) (told calm : Bool) (q : Rule) (a : Alternative) (ps behind : List Part) (tokens end : List TokenKind) (p : Pieces) (choices : List Bool) (t : Thread) (at : ℕ) (f : Frame) (fs : List Frame) (had after whole : Pieces) (lone : Bool) (base depth : ℕ) (qs : List Part) (later : List Item) (height : ℕ) (inner outer last : List Fork)
-    → is_braced q ≡ false → Taken (ps ++ behind) tokens end (open_at tokens (rule_rows q)) a choices → (r : Ready low told calm (part.Rule q ∷ ps) behind p t at f fs had after whole lone base depth qs later)
+pub rule_path : (low : ℕ → Type 0) (told : Told) (calm : Bool) (q : Rule) (a : Alternative) (ps behind : List Part) (tokens end : List TokenKind) (p : Pieces) (choices : List Bool) (t : Thread) (at : ℕ) (f : Frame) (fs : List Frame) (had after whole : Pieces) (lone : Bool) (base depth : ℕ) (qs : List Part) (later : List Item) (height : ℕ) (inner outer last : List Fork)
+    → is_braced q ≡ false → Taken (ps ++ behind) tokens end (open_at tokens (rule_rows q)) a choices → (r : Ready low told.is calm (part.Rule q ∷ ps) behind p t at f fs had after whole lone base depth qs later)
     → Path true low told (calm || is_cons choices) (replaced (Some q) a.parts r.stands.u) at tokens end height (inner ++ (outer ++ last))
     → Path true low told calm t at tokens end height ((noted tokens choices ++ (inner ++ outer)) ++ last)
 rule_path low told calm q a ps behind tokens end p choices t at f fs had after whole lone base depth qs later height inner outer last free taken r path =
     let u = r.stands.u in
     let behind_items = map (item (suc (length fs))) ps ++ later in
-    let parts = ap parts_of_items (rest_is low told calm (part.Rule q) ps behind p t at f fs had after whole lone base depth qs later r) ∙ parts_joined (suc (length fs)) ps later behind r.come in
+    let parts = ap parts_of_items (rest_is low told.is calm (part.Rule q) ps behind p t at f fs had after whole lone base depth qs later r) ∙ parts_joined (suc (length fs)) ps later behind r.come in
     subst (Path true low told calm t at tokens end height) (sym (forks_joined (noted tokens choices) inner outer last))
     (from_closed low told calm calm (part.Rule q) ps behind p t at tokens end f fs had after whole lone base depth qs later height (noted tokens choices ++ (inner ++ (outer ++ last))) r
     (path_rule told calm u at tokens end height (inner ++ (outer ++ last)) q a choices
-    (next_is true tokens u f fs (part.Rule q) behind_items r.stands.frames (first_item low told calm (part.Rule q) ps behind p t at f fs had after whole lone base depth qs later r) ∙ rule_move (is_kind (next_kind tokens) LeftBrace) q free)
+    (next_is true tokens u f fs (part.Rule q) behind_items r.stands.frames (first_item low told.is calm (part.Rule q) ps behind p t at f fs had after whole lone base depth qs later r) ∙ rule_move (is_kind (next_kind tokens) LeftBrace) q free)
     (rule_none q (ps ++ behind) tokens end a choices calm r.starts taken) (as_taken (ps ++ behind) (parts_of_items (rest u.items)) tokens end (open_at tokens (rule_rows q)) a choices parts taken) path))

@@ -41,7 +41,7 @@ shorter_front (suc n) zero xs l = absurd (omega arith)
 shorter_front (suc n) (suc m) [] l = ([], refl)
 shorter_front (suc n) (suc m) (x ∷ xs) l = let s = shorter_front n m xs (omega arith) in (s.0, ap (λ (l : List TokenKind). x ∷ l) s.1)
 
-front_begins : (front more : List TokenKind) → BeginsShallow (front ++ more) → BeginsShallow front
+pub front_begins : (front more : List TokenKind) → BeginsShallow (front ++ more) → BeginsShallow front
 unfolding BeginsShallow
 front_begins front more b = (
   more ++ b.0,

@@ -16,7 +16,7 @@ use Rattle.zig_parse.specs.Choices.{choices}
 use Rattle.zig_parse.specs.Ways.{Fork, Taken, taken_sole, taken_first, taken_second, noted}
 use Rattle.zig_parse.proofs.Picks.{choices_as, parts_in}
 use Rattle.zig_parse.proofs.Costs.{total_work, moving_less, settled_one, settled_nothing}
-use Rattle.zig_parse.proofs.Paths.{Path, path_ends, path_closes, path_rule, path_group, path_reads, path_waits, is_cons, look_of, parts_of_items}
+use Rattle.zig_parse.proofs.Paths.{Told, Path, path_ends, path_closes, path_rule, path_group, path_reads, path_waits, is_cons, look_of, parts_of_items}
 use Rattle.zig_parse.proofs.Free.{own, closed_own, rule_own, group_own, path_own}
 use Rattle.zig_parse.proofs.Moving.{coming, Each, each_joined, each_kept, Comes, moving_come, settled_each, rule_coming, group_coming, rule_goal, group_goal, closed_keeps}
 
@@ -89,7 +89,7 @@ chosen_with at [] cs = cs
 chosen_with at (true ∷ _) cs = at ∷ cs
 chosen_with at (false ∷ _) cs = cs
 
-pub record Settled (low : ℕ → Type 0) (told calm : Bool) (t : Thread) (cs : List ℕ) (at : ℕ) (tokens end : List TokenKind) (height : ℕ) (forks : List Fork) : Type 0 where
+pub record Settled (low : ℕ → Type 0) (told : Told) (calm : Bool) (t : Thread) (cs : List ℕ) (at : ℕ) (tokens end : List TokenKind) (height : ℕ) (forks : List Fork) : Type 0 where
   pub before : List Thread
   pub x : Thread
   pub after : List Thread
@@ -133,7 +133,7 @@ spread_one : (look : Look) (at : ℕ) (r : Option Rule) (p : List Part) (u : Thr
 unfolding spread
 spread_one look at r p u = refl
 
-settle_taken : (low : ℕ → Type 0) (told calm : Bool) (t : Thread) (cs : List ℕ) (at : ℕ) (tokens end : List TokenKind) (height : ℕ) (later : List Fork) (r : Option Rule) (rows : List Alternative) (a : Alternative) (choices : List Bool)
+settle_taken : (low : ℕ → Type 0) (told : Told) (calm : Bool) (t : Thread) (cs : List ℕ) (at : ℕ) (tokens end : List TokenKind) (height : ℕ) (later : List Fork) (r : Option Rule) (rows : List Alternative) (a : Alternative) (choices : List Bool)
     → (calm ≡ true → choices ≡ []) → Taken (parts_of_items (rest t.items)) tokens end rows a choices
     → settled_all (look_of tokens) at (own cs t ∷ []) ≡ settled_all (look_of tokens) at (spread at r (parts_in rows) (own cs t))
     → ((b : Alternative) (ds : List ℕ) → coming (replaced r b.parts (own ds t)) ≡ b.parts ++ parts_of_items (rest t.items))
@@ -205,7 +205,7 @@ settle_taken low told calm t cs at tokens end height later r rows a choices c (t
     }
 
 -- a thread that can read now
-settle_now : (low : ℕ → Type 0) (told calm : Bool) (t : Thread) (cs : List ℕ) (at : ℕ) (tokens end : List TokenKind) (height : ℕ) (forks : List Fork) → next_move (look_of tokens) true t ≡ move.Read
+settle_now : (low : ℕ → Type 0) (told : Told) (calm : Bool) (t : Thread) (cs : List ℕ) (at : ℕ) (tokens end : List TokenKind) (height : ℕ) (forks : List Fork) → next_move (look_of tokens) true t ≡ move.Read
     → Path true low told calm t at tokens end height forks → Settled low told calm t cs at tokens end height forks
 unfolding next_move
 settle_now low told calm t cs at tokens end height forks h p = record {
@@ -225,7 +225,7 @@ settle_now low told calm t cs at tokens end height forks h p = record {
   reads = h;
 }
 
-closed_settled : (low : ℕ → Type 0) (told calm : Bool) (t : Thread) (cs : List ℕ) (at : ℕ) (tokens end : List TokenKind) (height : ℕ) (forks : List Fork)
+closed_settled : (low : ℕ → Type 0) (told : Told) (calm : Bool) (t : Thread) (cs : List ℕ) (at : ℕ) (tokens end : List TokenKind) (height : ℕ) (forks : List Fork)
     → next_move (look_of tokens) true t ≡ move.Close → Settled low told calm (closed t) cs at tokens end height forks → Settled low told calm t cs at tokens end height forks
 unfolding next_move
 closed_settled low told calm t cs at tokens end height forks h s =
@@ -248,7 +248,7 @@ closed_settled low told calm t cs at tokens end height forks h s =
       reads = s.reads;
     }
 
-pub settle_path : (low : ℕ → Type 0) (told calm : Bool) (t : Thread) (at : ℕ) (tokens end : List TokenKind) (height : ℕ) (forks : List Fork) → length end < length tokens → Path true low told calm t at tokens end height forks
+pub settle_path : (low : ℕ → Type 0) (told : Told) (calm : Bool) (t : Thread) (at : ℕ) (tokens end : List TokenKind) (height : ℕ) (forks : List Fork) → length end < length tokens → Path true low told calm t at tokens end height forks
     → (cs : List ℕ) → Settled low told calm t cs at tokens end height forks
 unfolding next_move
 settle_path low told calm t at tokens end height forks l (path_ends _ _ _ _ _ e) cs = absurd (omega arith)
@@ -266,7 +266,7 @@ settle_path low told calm t at tokens end height forks l (path_group _ _ _ _ _ _
     (settled_move look at (own cs t) (move.Group g) h (λ e. cc) ∙ ap (λ (l : List (List Part)). settled_all look at (spread at None l (own cs t))) (choices_as tokens (group_rows g)))
     (λ b ds. group_coming b.parts (own ds t)) (λ ps ds. group_own ds ps t) (group_goal a.parts t)
     (λ ds. settle_path low told (calm || is_cons picks) (replaced None a.parts t) at tokens end height later l more ds)
-settle_path low told calm t at tokens end height forks l (path_reads _ _ _ _ k left _ _ _ h w f more) cs =
-    settle_now low told calm t cs at (k ∷ left) end height forks h (path_reads told calm t at k left end height forks h w f more)
-settle_path low told calm t at tokens end height forks l (path_waits _ _ _ _ left mid _ _ inner_height inner outer p ap_true h w f go g more) cs =
-    settle_now low told calm t cs at tokens end height forks h (path_waits told calm t at left mid end height inner_height inner outer p ap_true h w f go g more)
+settle_path low told calm t at tokens end height forks l (path_reads _ _ _ _ k left _ _ _ h w f seen more) cs =
+    settle_now low told calm t cs at (k ∷ left) end height forks h (path_reads told calm t at k left end height forks h w f seen more)
+settle_path low told calm t at tokens end height forks l (path_waits _ _ _ _ left mid _ _ inner_height inner outer p base ap_true h w f awaits go g seen more) cs =
+    settle_now low told calm t cs at tokens end height forks h (path_waits told calm t at left mid end height inner_height inner outer p base ap_true h w f awaits go g seen more)

@@ -7,7 +7,7 @@ use Rattle.zig_parse.specs.declared.thread.Move.TheVariants as move
 use Rattle.zig_parse.specs.Threads.{after_read}
 use Rattle.zig_parse.specs.Moves.{next_move, settled_all}
 use Rattle.zig_parse.specs.Ways.{Fork, noted}
-use Rattle.zig_parse.proofs.Paths.{Path, look_of}
+use Rattle.zig_parse.proofs.Paths.{Seen, Told, Path, look_of}
 use Rattle.zig_parse.proofs.Moving.{Each, each_joined}
 use Rattle.zig_parse.proofs.Settling.{Dead, chosen_with, settle_path, settled_dead, settled_joined}
 use Rattle.zig_parse.proofs.Living.{Around, Good, Gone, Readable, settled_good}
@@ -19,7 +19,7 @@ pub record Tracked (low : ℕ → Type 0) (top total at : ℕ) (tokens : List To
   pub from : List TokenKind
   pub end : List TokenKind
   pub height : ℕ
-  pub told : Bool
+  pub told : Told
   pub x : Thread
   pub before : List Thread
   pub after : List Thread
@@ -28,12 +28,13 @@ pub record Tracked (low : ℕ → Type 0) (top total at : ℕ) (tokens : List To
   pub outer : List Fork
   pub live_is : live ≡ before ++ x ∷ after
   pub goal_is : x.goal ≡ goal
+  pub seen : Seen told.spot at tokens end x.frames x.items
   pub path : Path true low told false x at tokens end height inner
   pub shorter : length end < length tokens
   pub good : Each (Good root from tokens) live
   pub dead : Each (Dead goal tokens end) before
-  pub hears : (told ≡ true) ⊎ (low at → ⊥)
-  pub around : Around low top total waiting goal from end height root cs outer
+  pub hears : (told.is ≡ true) ⊎ (low at → ⊥)
+  pub around : Around low top total told.spot waiting goal from end height root cs outer
   pub choices_are : ds ≡ x.choices ++ cs
   pub forks_are : forks ≡ inner ++ outer
   pub place : at + length tokens ≡ total
@@ -45,7 +46,7 @@ pub record AtToken (low : ℕ → Type 0) (top total at : ℕ) (k : TokenKind) (
   pub from : List TokenKind
   pub end : List TokenKind
   pub height : ℕ
-  pub told : Bool
+  pub told : Told
   pub x : Thread
   pub before : List Thread
   pub after : List Thread
@@ -54,18 +55,19 @@ pub record AtToken (low : ℕ → Type 0) (top total at : ℕ) (k : TokenKind) (
   pub outer : List Fork
   pub ready_is : ready ≡ before ++ x ∷ after
   pub goal_is : x.goal ≡ goal
+  pub seen : Seen told.spot (at + 1) more end (after_read x).frames (after_read x).items
   pub path : Path true low told false (after_read x) (at + 1) more end height inner
-  pub shallow : told ≡ true → low (at + 1) → (after_read x).deep ≡ false
+  pub shallow : told.is ≡ true → low (at + 1) → (after_read x).deep ≡ false
   pub gone : Each (λ (y : Thread). Gone root from k more (after_read y)) ready
   pub dead : Each (λ (y : Thread). Dead goal more end (after_read y)) before
-  pub hears : (told ≡ true) ⊎ (low (at + 1) → ⊥)
-  pub around : Around low top total waiting goal from end height root cs outer
+  pub hears : (told.is ≡ true) ⊎ (low (at + 1) → ⊥)
+  pub around : Around low top total told.spot waiting goal from end height root cs outer
   pub choices_are : ds ≡ x.choices ++ cs
   pub forks_are : forks ≡ inner ++ outer
   pub place : at + 1 + length more ≡ total
 
 -- after the moves, before it is known what stands in front
-pub record Readied (low : ℕ → Type 0) (at : ℕ) (tokens : List TokenKind) (ready : List Thread) (root : Bool) (goal : Part) (from end : List TokenKind) (height : ℕ) (told : Bool) (own_choices : List ℕ) (inner : List Fork) : Type 0 where
+pub record Readied (low : ℕ → Type 0) (at : ℕ) (tokens : List TokenKind) (ready : List Thread) (root : Bool) (goal : Part) (from end : List TokenKind) (height : ℕ) (told : Told) (own_choices : List ℕ) (inner : List Fork) : Type 0 where
   pub before : List Thread
   pub x : Thread
   pub after : List Thread

@@ -140,7 +140,7 @@ sentence_grown tokens marks tree fits h s =
     let same : f.found ≡ marks = (let both : Ok f.found ≡ Ok marks = sym f.accepts ∙ h in cc) in
     grown_or tokens tree c.forks marks fits c.sure (subst (λ (m : List Bool). Agrees tokens m c.forks) same (agrees_as tokens f.found c.forks f.agree))
 
-never_unexpected : (tokens : List Token) (marks : List Bool) (k : TokenKind) (at : ℕ) → length tokens < 2 ^ 32 → survey_of tokens ≡ Ok marks → grown_from tokens marks ≡ Err (Unexpected k at) → IsEnded tokens → ⊥
+pub never_unexpected : (tokens : List Token) (marks : List Bool) (k : TokenKind) (at : ℕ) → length tokens < 2 ^ 32 → survey_of tokens ≡ Ok marks → grown_from tokens marks ≡ Err (Unexpected k at) → IsEnded tokens → ⊥
 never_unexpected tokens marks k at fits h e ended =
     survey_sentence tokens marks h ended (λ (tree, s). elim (sentence_grown tokens marks tree fits h s) [
       | inl g ↦ (let both : Ok g.nodes ≡ Err (Unexpected k at) = sym g.grows ∙ e in cc)

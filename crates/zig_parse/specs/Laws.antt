@@ -1,18 +1,20 @@
 -- What holds of the grammar, and of the function on lists that the parser computes.
-use Rattle.std.specs.Prelude.{◌≡◌, ◌+◌, ◌<◌, ◌≤◌, ◌^◌, ℕ, List, [], ◌∷◌, length, Ok}
+use Rattle.std.specs.Prelude.{◌≡◌, false, ◌+◌, ◌<◌, ◌≤◌, ◌^◌, ℕ, List, [], ◌∷◌, ◌++◌, length, Ok}
 use Rattle.zig_tree.specs.declared.token.TokenKind.{TokenKind}
 use Rattle.zig_tree.specs.declared.token.Token.{Token}
 use Rattle.zig_tree.specs.declared.grammar.Rule.TheVariants as rule
 use Rattle.zig_tree.specs.declared.grammar.Part.TheVariants as part
 use Rattle.zig_tree.specs.declared.tree.Node.{Node}
-use Rattle.zig_tree.specs.GrammarSentences.{Pieces, Derives, Sentence, Accepted, IsRefused, IsUnexpected, IsTooDeep}
+use Rattle.zig_tree.specs.GrammarSentences.{BeginsShallow, Pieces, Derives, Sentence, Accepted, IsRefused, IsUnexpected, IsTooDeep}
 use Rattle.zig_parse.specs.declared.choice.Look.{Look}
 use Rattle.zig_parse.specs.declared.thread.Thread.{Thread}
 use Rattle.zig_parse.specs.declared.state.State.{State}
 use Rattle.zig_parse.specs.Growth.{parse_of}
 use Rattle.zig_parse.specs.Moves.{moves_for_all, settled, settled_all}
+use Rattle.zig_parse.specs.Passes.{all_deep}
 use Rattle.zig_parse.specs.Surveys.{next_verdict}
-use Rattle.zig_parse.specs.Trees.{HoldsAll}
+use Rattle.zig_parse.specs.Trees.{HoldsAll, NotWithout}
+use Rattle.zig_parse.specs.Leads.{Ending, IsEven, Leader, read_front}
 use Rattle.zig_parse.specs.Ways.{Fork, Sure}
 
 -- a list of tokens has at most one tree
@@ -50,3 +52,17 @@ MovesSuffice = (n : ℕ) (look : Look) (at : ℕ) (ts : List Thread) → moves_f
 -- what stands behind a token counts for nothing where it is read or refused
 abbrev pub LastLook : Type 0
 LastLook = (a b : Look) (at : ℕ) (s : State) → a.kind ≡ b.kind → next_verdict a at s ≡ next_verdict b at s
+
+-- where the first pass has read some tokens, and maybe more, and the way that leads isn't too deep, some sentence
+-- begins with them that has each of them directly in a node no deeper than 200
+abbrev pub LedBegins : Type 0
+LedBegins = (front more : List TokenKind) (next : TokenKind) (l : Leader next (read_front (front ++ more) next)) → l.t.deep ≡ false → NotWithout (BeginsShallow front)
+
+-- The same where some tokens end all by a way that isn't too deep, and by none that goes before it: the fewest
+-- tokens that end it, commas not counted.
+abbrev pub EndedBegins : Type 0
+EndedBegins = (front more ending : List TokenKind) (next : TokenKind) (e : Ending next (read_front (front ++ more) next) ending) → e.t.deep ≡ false → NotWithout (BeginsShallow front)
+
+-- The same where the threads are even, and not all of them too deep: then a way leads that isn't.
+abbrev pub EvenlyBegins : Type 0
+EvenlyBegins = (front more : List TokenKind) (next : TokenKind) → IsEven (front ++ more) next → all_deep (read_front (front ++ more) next).live ≡ false → NotWithout (BeginsShallow front)

@@ -8,5 +8,6 @@ pub mod Nodes
 pub mod Growth
 pub mod Grows
 pub mod Ways
+pub mod Leads
 pub mod Laws
 pub mod Trees

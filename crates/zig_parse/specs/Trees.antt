@@ -1,5 +1,5 @@
 -- What the nodes of a tree say: which tokens they hold, in which rows of the grammar.
-use Rattle.std.specs.Prelude.{◌≡◌, ℕ, ◌+◌, ◌-◌, ◌<◌, ◌≤◌, List, [], ◌∷◌, map, length, take, slice_get, Some}
+use Rattle.std.specs.Prelude.{◌≡◌, ℕ, true, false, ◌+◌, ◌-◌, ◌<◌, ◌≤◌, ◌⊎◌, List, [], ◌∷◌, ◌++◌, map, length, take, slice_get, Some}
 use Rattle.zw_base.specs.declared.diag.Span.{Span}
 use Rattle.zig_tree.specs.declared.token.Token.{Token}
 use Rattle.zig_tree.specs.declared.token.TokenKind.{TokenKind}
@@ -14,6 +14,8 @@ use Rattle.zig_parse.specs.declared.fault.SyntaxFault.{SyntaxFault}
 use Rattle.zig_parse.specs.declared.fault.SyntaxFault.TheVariants.{Unexpected, TooDeep, OutOfMemory}
 use Rattle.zig_parse.specs.Nodes.{joined, token_span}
 use Rattle.zig_parse.specs.Surveys.{kind_of}
+use Rattle.zig_parse.specs.Leads.{Ending, IsEven, Leader, ends_named, read_front}
+use Rattle.zig_parse.specs.Passes.{all_deep}
 
 -- the kinds of tokens
 abbrev pub kinds_of : List Token → List TokenKind
@@ -79,3 +81,29 @@ abbrev pub NoneShallow : List Token → SyntaxFault → Type 0
 NoneShallow tokens (Unexpected kind at) = IsEnded tokens → BeginsShallow (take (at + 1) (kinds_of tokens)) → ⊥
 NoneShallow tokens (TooDeep at) = IsEnded tokens → BeginsShallow (take (at + 1) (kinds_of tokens)) → ⊥
 NoneShallow tokens OutOfMemory = Unit {0}
+
+-- Where a way of the first pass leads after the tokens before the refused one, and is too deep only where all are,
+-- some sentence begins with them that has each of them directly in a node no deeper than 200. After an identifier
+-- the way that leads isn't to be too deep: which of those that are lost there are not, what stands behind tells.
+abbrev pub LeaderBegins : List TokenKind → Type 0
+LeaderBegins front = (next : TokenKind) (l : Leader next (read_front front next)) → l.t.deep ≡ all_deep (read_front front next).live → (ends_named front ≡ true → l.t.deep ≡ false) → NotWithout (BeginsShallow front)
+
+-- The same of a way that some tokens end, the fewest that may be, and none that goes before it with the same tokens.
+abbrev pub EndingBegins : List TokenKind → Type 0
+EndingBegins front =
+    (next : TokenKind) (ending : List TokenKind) (e : Ending next (read_front front next) ending) → e.t.deep ≡ all_deep (read_front front next).live → (ends_named front ≡ true → e.t.deep ≡ false) → NotWithout (BeginsShallow front)
+
+-- The same where after these tokens, or after them and more, the threads of the first pass are even, and after more,
+-- or after an identifier, not all too deep.
+abbrev pub EvenBegins : List TokenKind → Type 0
+EvenBegins front =
+    (more : List TokenKind) (next : TokenKind) → IsEven (front ++ more) next → ((0 < length more) ⊎ (ends_named front ≡ true) → all_deep (read_front (front ++ more) next).live ≡ false) → NotWithout (BeginsShallow front)
+
+-- with the tokens before the refused one some sentence begins that has each of them within the depth, in these cases
+abbrev pub BeginsBefore : List TokenKind → Type 0
+BeginsBefore front = LeaderBegins front × EndingBegins front × EvenBegins front
+
+abbrev pub EarlierShallow : List Token → SyntaxFault → Type 0
+EarlierShallow tokens (Unexpected kind at) = IsEnded tokens → BeginsBefore (take at (kinds_of tokens))
+EarlierShallow tokens (TooDeep at) = IsEnded tokens → BeginsBefore (take at (kinds_of tokens))
+EarlierShallow tokens OutOfMemory = Unit {0}

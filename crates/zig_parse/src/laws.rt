@@ -1,5 +1,5 @@
 // Laws of the grammar and of the function on lists that the parser computes. They have no code.
-ghost use Rattle.zig_parse.specs.Laws.{ChosenIsSure, DerivedIsSentence, LastLook, MovesSuffice, NeverBoth, OneReason, OneRefusal, OneTree, ReadsTree};
+ghost use Rattle.zig_parse.specs.Laws.{ChosenIsSure, DerivedIsSentence, EndedBegins, EvenlyBegins, LastLook, LedBegins, MovesSuffice, NeverBoth, OneReason, OneRefusal, OneTree, ReadsTree};
 
 /// A list of tokens has at most one tree.
 pub fn one_tree()
@@ -37,4 +37,22 @@ pub fn chosen_is_sure()
 /// What stands behind a token counts for no refusal of it.
 pub fn last_look()
     ensures { LastLook }
+{}
+
+/// Where the way of the first pass that leads after some tokens, or after more, isn't too deep, some sentence
+/// begins with them that has each of them within the depth.
+pub fn led_begins()
+    ensures { LedBegins }
+{}
+
+/// Where some tokens end what was read by a way that isn't too deep, and by none before it, some sentence begins
+/// with what was read that has each token of it within the depth.
+pub fn ended_begins()
+    ensures { EndedBegins }
+{}
+
+/// Where the threads of the first pass are even after some tokens, or after more, and not all too deep, some
+/// sentence begins with the tokens that has each of them within the depth.
+pub fn evenly_begins()
+    ensures { EvenlyBegins }
 {}

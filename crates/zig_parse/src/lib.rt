@@ -6,7 +6,7 @@
 //! its tree. `parse_of` is both passes as one function on lists. What a tree of it holds is derived by
 //! the grammar's rules, token by token (`specs/Trees.antt`).
 //! Public calls: `parse`. `one_tree`, `one_answer`, `derived_is_sentence`, `chosen_is_sure`,
-//! `tree_is_derived` and `moves_suffice` are laws without code (`specs/Laws.antt`). The crate stands on
+//! `tree_is_derived`, `moves_suffice`, `last_look`, `led_begins`, `ended_begins` and `evenly_begins` are laws without code (`specs/Laws.antt`). The crate stands on
 //! `zig_tree` and `zw_base`.
 #![tactic(auto)]
 
@@ -24,8 +24,8 @@ mod thread;
 
 pub use fault::SyntaxFault;
 pub use laws::{
-    chosen_is_sure, derived_is_sentence, last_look, moves_suffice, one_answer, one_tree,
-    tree_is_derived,
+    chosen_is_sure, derived_is_sentence, ended_begins, evenly_begins, last_look, led_begins,
+    moves_suffice, one_answer, one_tree, tree_is_derived,
 };
 pub use parser::parse;
 

@@ -2,7 +2,7 @@
 ghost use Rattle.std.specs.Prelude.{◌≡◌, ◌+◌, IfErr, IfOk, length};
 ghost use Rattle.zig_parse.specs.Growth.{parse_of};
 ghost use Rattle.zig_parse.specs.Surveys.{Gives};
-ghost use Rattle.zig_parse.specs.Trees.{HoldsAll, IsChosen, IsRefusedFor, IsSentence, NamesToken, NoneShallow, kinds_of};
+ghost use Rattle.zig_parse.specs.Trees.{EarlierShallow, HoldsAll, IsChosen, IsRefusedFor, IsSentence, NamesToken, NoneShallow, kinds_of};
 
 use crate::fault::SyntaxFault;
 use crate::grow::grow;
@@ -29,6 +29,9 @@ pub fn parse(alloc: Global, tokens: &[Token]) -> Result<Tree, SyntaxFault>
     ensures reason { IfErr result (IsRefusedFor tokens.now) }
     // With a refused token no sentence begins that has each token up to it directly in a node within the depth.
     ensures shallow { IfErr result (NoneShallow tokens.now) }
+    // With those before it one does, where after them, or after them and more, the threads of the first pass are
+    // even; where the way of it that leads is too deep only where all are; and where some tokens end one way alone.
+    ensures earlier { IfErr result (EarlierShallow tokens.now) }
 {
     let Ok(count) = u32::try_from(tokens.len()) else {
         return Err(SyntaxFault::OutOfMemory);

@@ -5,7 +5,7 @@ use Rattle.zig_tree.specs.declared.tree.Tree.{Tree}
 use Rattle.zig_parse.specs.declared.fault.SyntaxFault.{SyntaxFault}
 use Rattle.zig_parse.specs.Growth.{grown_from}
 use Rattle.zig_parse.specs.Surveys.{Fails, Gives}
-use Rattle.zig_parse.specs.Trees.{HoldsAll, IsChosen, IsRefusedFor, IsSentence, NamesToken, NoneShallow, kinds_of}
+use Rattle.zig_parse.specs.Trees.{EarlierShallow, HoldsAll, IsChosen, IsRefusedFor, IsSentence, NamesToken, NoneShallow, kinds_of}
 use Rattle.zig_parse.proofs.Sound.{grown_sound}
 use Rattle.zig_parse.proofs.Preferred.{sentence_some}
 use Rattle.zig_parse.proofs.Names.{grow_fails, survey_fails}
@@ -13,6 +13,7 @@ use Rattle.zig_parse.specs.declared.fault.SyntaxFault.TheVariants.{Unexpected, T
 use Rattle.zig_parse.proofs.Answers.{parsed_chosen, survey_of, survey_refused}
 use Rattle.zig_parse.proofs.WholeAnswers.{grown_refused}
 use Rattle.zig_parse.proofs.DeepRefusals.{grown_shallow, survey_shallow}
+use Rattle.zig_parse.proofs.EarlierTokens.{grown_earlier, survey_earlier}
 use Rattle.zig_parse.proofs.parser.parse.Goals as goal
 
 call_sound : (tokens : List Token) (marks : List Bool) (r : Result Tree SyntaxFault) → length tokens < 2 ^ 32 → Gives (λ t. t.nodes) r (grown_from tokens marks) → IfOk r (λ t. t.root + 1 ≡ length t.nodes)
@@ -95,3 +96,23 @@ pub returns-in_err-chosen-clause-shallow : goal.returns-in_err-chosen-clause-sha
 returns-in_err-chosen-clause-shallow c =
     let same : c.from_residual.result ≡ Err c.in_err-chosen.field-0.0 = search rules in
     subst (λ (r : Result Tree SyntaxFault). IfErr r (NoneShallow c.args.tokens.now)) (sym same) (shallow_reason c.args.tokens.now c.in_err-chosen.field-0.0 (omega (arith, c.in-Ok.ensures)) c.in_err-chosen.ensures)
+
+call_earlier : (tokens : List Token) (marks : List Bool) (r : Result Tree SyntaxFault) → length tokens < 2 ^ 32 → survey_of tokens ≡ Ok marks → Gives (λ t. t.nodes) r (grown_from tokens marks) → IfErr r (EarlierShallow tokens)
+call_earlier tokens marks (Ok t) fits found h = tt
+call_earlier tokens marks (Err (Unexpected k at)) fits found h = grown_earlier tokens marks (Unexpected k at) fits found h
+call_earlier tokens marks (Err (TooDeep at)) fits found h = grown_earlier tokens marks (TooDeep at) fits found h
+call_earlier tokens marks (Err OutOfMemory) fits found h = tt
+
+earlier_reason : (tokens : List Token) (e : SyntaxFault) → Fails e (survey_of tokens) → EarlierShallow tokens e
+earlier_reason tokens (Unexpected k at) h = survey_earlier tokens (Unexpected k at) h
+earlier_reason tokens (TooDeep at) h = survey_earlier tokens (TooDeep at) h
+earlier_reason tokens OutOfMemory h = tt
+
+pub returns-clause-earlier : goal.returns-clause-earlier
+returns-clause-earlier c =
+    call_earlier c.args.tokens.now c.as_slice.result.now c.grow.result (omega (arith, c.in-Ok.ensures)) (found_marks c.args.tokens.now c.as_slice.result.now c.in_ok-chosen.chosen.items c.in_ok-chosen.ensures c.as_slice.ensures.value) c.grow.ensures.nodes
+
+pub returns-in_err-chosen-clause-earlier : goal.returns-in_err-chosen-clause-earlier
+returns-in_err-chosen-clause-earlier c =
+    let same : c.from_residual.result ≡ Err c.in_err-chosen.field-0.0 = search rules in
+    subst (λ (r : Result Tree SyntaxFault). IfErr r (EarlierShallow c.args.tokens.now)) (sym same) (earlier_reason c.args.tokens.now c.in_err-chosen.field-0.0 c.in_err-chosen.ensures)
