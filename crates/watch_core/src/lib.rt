@@ -8,6 +8,8 @@
 #![tactic(auto)]
 
 mod compile;
+#[cfg(test)]
+mod core_tests;
 mod form;
 mod scopes;
 mod session;

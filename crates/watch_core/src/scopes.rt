@@ -7,7 +7,7 @@ ghost use Rattle.watch_core.specs.ScopeDiags.{diag_of, one};
 use diag_order::{Diag, Line, sorted};
 use std::alloc::{AllocError, Global};
 use zig_tree::{Token, Tree};
-use zir_astgen::builtin_faults;
+use zir_astgen::{AstGenOut, astgen};
 use zir_scope::{Scopes, resolve};
 use zw_base::limits::TOTAL_BYTES;
 use zw_base::{Bytes, FilePath, FileTexts, Found, Seq};
@@ -22,13 +22,18 @@ pub fn name_faults(
     requires { length tokens.now < 2 ^ 32 }
     ensures { IfOk result (λ v. v.items ≡ name_faults text.now tokens.now tree.now.nodes tree.now.root) }
 {
+    let scopes = resolve(alloc, text, tokens, tree)?;
+    let AstGenOut {
+        zir: _,
+        found: calls,
+    } = astgen(alloc, text, tokens, tree, &scopes)?;
     let Scopes {
         events: _,
         captures: _,
         found,
-    } = resolve(alloc, text, tokens, tree)?;
+    } = scopes;
     let mut found = found.into_vec();
-    let mut calls = builtin_faults(alloc, text, tokens, tree.nodes.as_slice())?;
+    let mut calls = calls.into_vec();
     found.append(&mut calls)?;
     Ok(found)
 }

@@ -15,6 +15,8 @@ pub mod WriterLemmas
 pub mod MeantLemmas
 pub mod HeldLemmas
 pub mod CountLemmas
+pub mod EntryLemmas
 pub mod FileLemmas
 pub mod WalkLemmas
 pub mod RowLemmas
+pub mod DeclareLemmas

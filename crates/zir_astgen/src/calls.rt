@@ -21,7 +21,7 @@ pub fn kind_at(tokens: &[Token], token: u32) -> TokenKind
 }
 
 /// The bytes of a token.
-fn bytes_at<'a>(text: &'a [u8], tokens: &[Token], token: u32) -> &'a [u8]
+pub fn bytes_at<'a>(text: &'a [u8], tokens: &[Token], token: u32) -> &'a [u8]
     ensures { result.now ≡ spec.bytes_at text.now tokens.now token }
 {
     match tokens.get(token as usize) {

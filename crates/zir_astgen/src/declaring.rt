@@ -158,6 +158,114 @@ impl FileSource<'_> {
         let row = self.declaration_row(at, row, content, None, line)?;
         enter_declaration(sheet, rows, row)
     }
+
+    /// A function: its head, and its body where it has one.
+    #[tactic(auto, using(crate::proofs::RowLemmas::row_steps, crate::proofs::AddLemmas::add_steps))]
+    fn declare_function(
+        &self,
+        tables: Tables,
+        at: &Location<'_>,
+        row: &[Kid],
+        content: &Held<'_>,
+    ) -> Result<Tables, AllocError>
+        requires captured { at.now.captured.now ≡ captures_from at.now.container self.now.captures.now }
+        requires within { Within tables }
+        ensures within { IfOk result (λ t. Within t) }
+        ensures filed { IfOk result (λ t. filed t ≡ filed_more (filed tables) (spec.function_declaration (file_known self.now) (where_of at.now) (spec.site_of (file_known self.now) (where_of at.now) (spec.linkage_of (file_known self.now) (row_in self.now.outline.now row.now)) (parts.lead_of (row_in self.now.outline.now content.now.row.now)) (own_locals (row_in self.now.outline.now content.now.row.now))) (row_in self.now.outline.now row.now) (row_in self.now.outline.now content.now.row.now) ∷ []) [] []) }
+    {
+        let linked = self.linked(row)?;
+        let locals = self.locals_in(content)?;
+        let part = self.part_at(
+            at.containers,
+            at.captured,
+            at.around,
+            &locals,
+            linked.linkage(),
+            content,
+        );
+        let Tables { sheet, rows } = tables;
+        let prototype = held_of_rule(self.outline, Rule::Prototype, content.row);
+        let Written { sheet, line: head } = self.tree_in(
+            sheet,
+            &part,
+            Start::Plain,
+            Rule::Prototype,
+            prototype.row,
+            prototype.before,
+        )?;
+        let block = held_of_rule(self.outline, Rule::Block, content.row);
+        let Written { sheet, line: body } = self.tree_in(
+            sheet,
+            &part,
+            Start::Function,
+            Rule::Block,
+            block.row,
+            block.before,
+        )?;
+        let Written { sheet, line } = function_in(sheet, head, body)?;
+        let row = self.declaration_row(at, row, content, Some(head), line)?;
+        enter_declaration(sheet, rows, row)
+    }
+
+    /// A function that is imported.
+    #[tactic(auto, using(crate::proofs::RowLemmas::row_steps, crate::proofs::AddLemmas::add_steps))]
+    fn declare_imported(
+        &self,
+        tables: Tables,
+        at: &Location<'_>,
+        row: &[Kid],
+        content: &Held<'_>,
+    ) -> Result<Tables, AllocError>
+        requires captured { at.now.captured.now ≡ captures_from at.now.container self.now.captures.now }
+        requires within { Within tables }
+        ensures within { IfOk result (λ t. Within t) }
+        ensures filed { IfOk result (λ t. filed t ≡ filed_more (filed tables) (spec.imported_declaration (file_known self.now) (where_of at.now) (spec.site_of (file_known self.now) (where_of at.now) (spec.linkage_of (file_known self.now) (row_in self.now.outline.now row.now)) (parts.lead_of (row_in self.now.outline.now content.now.row.now)) (own_locals (row_in self.now.outline.now content.now.row.now))) (row_in self.now.outline.now row.now) (row_in self.now.outline.now content.now.row.now) ∷ []) [] []) }
+    {
+        let linked = self.linked(row)?;
+        let locals = self.locals_in(content)?;
+        let part = self.part_at(
+            at.containers,
+            at.captured,
+            at.around,
+            &locals,
+            linked.linkage(),
+            content,
+        );
+        let Tables { sheet, rows } = tables;
+        let Written { sheet, line: head } = self.tree_in(
+            sheet,
+            &part,
+            Start::Plain,
+            Rule::Prototype,
+            content.row,
+            content.before,
+        )?;
+        let Written { sheet, line } = function_in(sheet, head, ABSENT)?;
+        let row = self.declaration_row(at, row, content, Some(head), line)?;
+        enter_declaration(sheet, rows, row)
+    }
+
+    /// What a declaration declares.
+    #[tactic(auto, using(crate::proofs::RowLemmas::filed_none, crate::proofs::DeclareLemmas::declared_none), unfolding(crate::specs::Files::declared_by, zig_tree::specs::Kinds::number_of_rule))]
+    pub fn declare(
+        &self,
+        tables: Tables,
+        at: &Location<'_>,
+        row: &[Kid],
+        content: &Held<'_>,
+    ) -> Result<Tables, AllocError>
+        requires captured { at.now.captured.now ≡ captures_from at.now.container self.now.captures.now }
+        requires within { Within tables }
+        ensures within { IfOk result (λ t. Within t) }
+        ensures filed { IfOk result (λ t. filed t ≡ filed_more (filed tables) (spec.declared_by (file_known self.now) (where_of at.now) (row_in self.now.outline.now row.now) (row_in self.now.outline.now content.now.row.now) content.now.rule) [] []) }
+    {
+        match content.rule {
+            Rule::Variable => self.declare_variable(tables, at, row, content),
+            Rule::Function => self.declare_function(tables, at, row, content),
+            Rule::Prototype => self.declare_imported(tables, at, row, content),
+            _ => Ok(tables),
+        }
+    }
 }
 
 /// A declaration is put behind those so far, whose lines are there.

@@ -22,7 +22,7 @@ use crate::rows::{begins_with, rule_at};
 use crate::sheet::{Rows, Sheet, Tables, Written};
 use crate::start::Start;
 use std::alloc::AllocError;
-use zig_tree::{Kid, Rule, TokenKind};
+use zig_tree::{Kid, Rule, TokenKind, same_rule};
 use zir_form::{BlockRow, ContainerRow};
 use zw_base::Seq;
 
@@ -183,5 +183,112 @@ impl FileSource<'_> {
         } else {
             Ok(tables)
         }
+    }
+
+    /// The parts of a declaration: its own, and those within it.
+    #[cycle(parts)]
+    fn declaration_parts(
+        &self,
+        tables: Tables,
+        at: &Location<'_>,
+        node: u32,
+    ) -> Result<Tables, AllocError>
+        requires captured { at.now.captured.now ≡ captures_from at.now.container self.now.captures.now }
+        requires within { Within tables }
+        ensures within { IfOk result (λ t. Within t) }
+        ensures filed { IfOk result (λ t. filed t ≡ filed_more (filed tables) (spec.declarations_of (file_known self.now) (node_entries (where_of at.now) rule.Declaration (inside_of self.now.outline.now node))) (spec.containers_of (file_known self.now) (node_entries (where_of at.now) rule.Declaration (inside_of self.now.outline.now node))) (spec.blocks_of (file_known self.now) (node_entries (where_of at.now) rule.Declaration (inside_of self.now.outline.now node)))) }
+    {
+        let row = self.outline.kids(node);
+        let mut found = Vec::new(self.alloc);
+        own_containers(self.outline, row, node, &mut found)?;
+        let containers = Places::of(self.alloc, found)?;
+        let inner = Location {
+            container: at.container,
+            around: at.around,
+            captured: at.captured,
+            owner: declared_token(self.outline, row, node),
+            containers: &containers,
+        };
+        let content = content(self.outline, row);
+        let tables = self.declare(tables, &inner, row, &content)?;
+        let tables = self.put_block_by(tables, &inner, row, &content)?;
+        self.row_parts(tables, &inner, row, node)
+    }
+
+    /// The parts of a container: its fields, and those within it.
+    #[cycle(parts)]
+    fn container_parts(
+        &self,
+        tables: Tables,
+        at: &Location<'_>,
+        node: u32,
+    ) -> Result<Tables, AllocError>
+        requires captured { at.now.captured.now ≡ captures_from at.now.container self.now.captures.now }
+        requires within { Within tables }
+        ensures within { IfOk result (λ t. Within t) }
+        ensures filed { IfOk result (λ t. filed t ≡ filed_more (filed tables) (spec.declarations_of (file_known self.now) (node_entries (where_of at.now) rule.Container (inside_of self.now.outline.now node))) (spec.containers_of (file_known self.now) (node_entries (where_of at.now) rule.Container (inside_of self.now.outline.now node))) (spec.blocks_of (file_known self.now) (node_entries (where_of at.now) rule.Container (inside_of self.now.outline.now node)))) }
+    {
+        let row = self.outline.kids(node);
+        let container = lead_of(self.outline, row, node);
+        let mut braces = Vec::from_slice(self.alloc, at.around.as_slice())?;
+        braces.push(brace_of(self.outline, row))?;
+        let around = Places::of(self.alloc, braces)?;
+        let locals = Vec::from_slice(self.alloc, self.captures.locals(container))?;
+        let captured = Places::of(self.alloc, locals)?;
+        let inner = Location {
+            container,
+            around: &around,
+            captured: &captured,
+            owner: at.owner,
+            containers: at.containers,
+        };
+        let held = crate::content::node_in(self.outline, node);
+        let tables = self.contain(tables, &inner, &held)?;
+        self.row_parts(tables, &inner, row, node)
+    }
+
+    /// The parts of a node.
+    #[cycle(parts)]
+    fn node_parts(&self, tables: Tables, at: &Location<'_>, node: u32) -> Result<Tables, AllocError>
+        requires captured { at.now.captured.now ≡ captures_from at.now.container self.now.captures.now }
+        requires within { Within tables }
+        ensures within { IfOk result (λ t. Within t) }
+        ensures filed { IfOk result (λ t. filed t ≡ filed_more (filed tables) (spec.declarations_of (file_known self.now) (node_entries (where_of at.now) (rule_at self.now.outline.now.nodes.now node) (inside_of self.now.outline.now node))) (spec.containers_of (file_known self.now) (node_entries (where_of at.now) (rule_at self.now.outline.now.nodes.now node) (inside_of self.now.outline.now node))) (spec.blocks_of (file_known self.now) (node_entries (where_of at.now) (rule_at self.now.outline.now.nodes.now node) (inside_of self.now.outline.now node)))) }
+    {
+        let rule = rule_at(self.outline, node);
+        if same_rule(rule, Rule::Declaration) {
+            self.declaration_parts(tables, at, node)
+        } else if same_rule(rule, Rule::Container) {
+            self.container_parts(tables, at, node)
+        } else {
+            self.row_parts(tables, at, self.outline.kids(node), node)
+        }
+    }
+
+    /// The parts of a row.
+    #[cycle(parts)]
+    pub fn row_parts(
+        &self,
+        tables: Tables,
+        at: &Location<'_>,
+        row: &[Kid],
+        before: u32,
+    ) -> Result<Tables, AllocError>
+        requires captured { at.now.captured.now ≡ captures_from at.now.container self.now.captures.now }
+        requires within { Within tables }
+        requires earlier { are_earlier before row.now ≡ true }
+        ensures within { IfOk result (λ t. Within t) }
+        ensures filed { IfOk result (λ t. filed t ≡ filed_more (filed tables) (spec.declarations_of (file_known self.now) (entries (where_of at.now) (row_in self.now.outline.now row.now))) (spec.containers_of (file_known self.now) (entries (where_of at.now) (row_in self.now.outline.now row.now))) (spec.blocks_of (file_known self.now) (entries (where_of at.now) (row_in self.now.outline.now row.now)))) }
+    {
+        let mut tables = tables;
+        let mut rest = row;
+        while let [kid, more @ ..] = rest {
+            match *kid {
+                Kid::Token(_) => {}
+                Kid::Node(node) => tables = self.node_parts(tables, at, node)?,
+            }
+            rest = more;
+        }
+        Ok(tables)
     }
 }

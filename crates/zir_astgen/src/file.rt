@@ -1,14 +1,16 @@
 // What is known of a file, and where a part of it stands.
-ghost use Rattle.std.specs.Prelude.{◌≡◌, IfOk};
+ghost use Rattle.std.specs.Prelude.{◌≡◌, IfOk, slice_get};
 ghost use Rattle.zir_astgen.specs.Files as spec;
 ghost use Rattle.zir_astgen.specs.Filing.{file_known};
-ghost use Rattle.zir_astgen.specs.Site.{bytes_of_name, written_at};
+ghost use Rattle.zir_astgen.specs.Site.{bytes_of_name, name_by, written_at};
 
+use crate::calls::bytes_at;
 use crate::captured::Captured;
 use crate::mentions::Mentions;
 use crate::places::Places;
 use std::alloc::{AllocError, Global};
-use zir_form::{name_of, token_bytes};
+use zig_tree::Token;
+use zir_form::name_of;
 use zir_scope::Outline;
 use zw_base::Bytes;
 
@@ -37,6 +39,21 @@ pub struct Location<'a> {
     pub containers: &'a Places,
 }
 
+/// The name at a token; one that isn't there has none.
+pub fn name_by(
+    alloc: Global,
+    text: &[u8],
+    tokens: &[Token],
+    token: u32,
+) -> Result<Bytes, AllocError>
+    ensures { IfOk result (λ name. name ≡ name_by text.now (slice_get tokens.now token)) }
+{
+    match tokens.get(token as usize) {
+        Some(token) => name_of(alloc, text, token),
+        None => Ok(Bytes::of(Vec::new(alloc))),
+    }
+}
+
 impl FileSource<'_> {
     /// Where a token begins.
     #[tactic(auto, unfolding(crate::specs::Files::start_of))]
@@ -54,10 +71,7 @@ impl FileSource<'_> {
     pub fn written_at(&self, token: u32) -> &[u8]
         ensures { result.now ≡ written_at (file_known self.now) token }
     {
-        match self.outline.tokens.get(token as usize) {
-            Some(token) => token_bytes(self.text, token),
-            None => &[],
-        }
+        bytes_at(self.text, self.outline.tokens, token)
     }
 
     /// The name at a token.
@@ -65,9 +79,6 @@ impl FileSource<'_> {
     pub fn name_at(&self, token: u32) -> Result<Bytes, AllocError>
         ensures { IfOk result (λ name. name ≡ bytes_of_name (file_known self.now) token) }
     {
-        match self.outline.tokens.get(token as usize) {
-            Some(token) => name_of(self.alloc, self.text, token),
-            None => Ok(Bytes::of(Vec::new(self.alloc))),
-        }
+        name_by(self.alloc, self.text, self.outline.tokens, token)
     }
 }

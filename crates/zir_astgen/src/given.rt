@@ -4,9 +4,9 @@ ghost use Rattle.zir_astgen.specs.Names.{name_or_none};
 ghost use Rattle.zir_astgen.specs.Site as spec;
 ghost use Rattle.zir_astgen.specs.Writing.{file, site};
 
+use crate::file::name_by;
 use crate::writer::Writer;
 use std::alloc::AllocError;
-use zir_form::name_of;
 use zw_base::Bytes;
 
 impl Writer<'_> {
@@ -26,10 +26,12 @@ impl Writer<'_> {
     pub fn bytes_of_name(&self, token: u32) -> Result<Bytes, AllocError>
         ensures { IfOk result (λ name. name ≡ spec.bytes_of_name (file self.now) token) }
     {
-        match self.source.outline.tokens.get(token as usize) {
-            Some(token) => name_of(self.alloc, self.source.text, token),
-            None => Ok(Bytes::of(Vec::new(self.alloc))),
-        }
+        name_by(
+            self.alloc,
+            self.source.text,
+            self.source.outline.tokens,
+            token,
+        )
     }
 
     /// The name at a token that may be there.

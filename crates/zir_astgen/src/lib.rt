@@ -10,59 +10,63 @@
 //! a row and gives each node its tree by `made_by`, one case for each rule of the grammar, from the trees of
 //! what it holds; what lies around (`specs/Levels.antt`, `specs/Stages.antt`) is passed down by itself:
 //! the functions, loops and blocks that can be left, with what is put off in each.
-//! Public calls: `builtin_faults`, linear in the tree; those of `values`, each linear in its token. The
-//! crate stands on `zw_base`, `zig_tree`, `zir_form` and `zir_scope`.
+//! The code keeps to the same order: `core_tree` has the public call, `entries` and `declaring` put a row
+//! into the file's tables for each part, `part_tree` has a part's tree written, and `walk` writes it as
+//! lines, children first, with one method of `Writer` for each rule.
+//! Public calls: `astgen`, near-linear in the file; those of `values`, each linear in its token; and laws
+//! on the definitions. The crate stands on `zw_base`, `zig_tree`, `zir_form` and `zir_scope`.
 #![tactic(auto)]
 
-pub mod around;
-pub mod asking;
-pub mod atoms;
+mod around;
+mod asking;
+mod atoms;
 mod builtins;
 mod calls;
-pub mod captured;
-pub mod chains;
-pub mod content;
-pub mod control;
-pub mod declarations;
-pub mod declaring;
-pub mod entries;
-pub mod exit;
-pub mod file;
-pub mod fingerprint;
-pub mod given;
-pub mod imports;
+mod captured;
+mod chains;
+mod content;
+mod control;
+mod core_tree;
+mod declarations;
+mod declaring;
+mod entries;
+mod exit;
+mod file;
+mod fingerprint;
+mod given;
+mod imports;
 mod laws;
-pub mod leaving;
-pub mod levels;
-pub mod linked;
-pub mod made;
-pub mod meant;
-pub mod mentions;
-pub mod named_values;
-pub mod operators;
-pub mod outline;
-pub mod part_tree;
-pub mod piece;
-pub mod places;
-pub mod primary;
-pub mod reading;
-pub mod rows;
-pub mod sheet;
-pub mod source;
-pub mod stage;
-pub mod start;
-pub mod statements;
-pub mod suffix;
+mod leaving;
+mod levels;
+mod linked;
+mod made;
+mod meant;
+mod mentions;
+mod named_values;
+mod operators;
+mod outline;
+mod part_tree;
+mod piece;
+mod places;
+mod primary;
+mod reading;
+mod rows;
+mod sheet;
+mod source;
+mod stage;
+mod start;
+mod statements;
+mod suffix;
 #[cfg(test)]
 mod tests;
-pub mod types;
+mod types;
 pub mod values;
-pub mod walk;
-pub mod words;
-pub mod writer;
-pub mod writing;
+mod walk;
+mod words;
+mod writer;
+mod writing;
 
-pub use calls::builtin_faults;
+pub use core_tree::{AstGenOut, astgen};
 pub use laws::{
     nothing_declares_nothing, places_count_from_the_first_token, what_a_container_holds_is_apart,
     what_is_put_off_runs_backwards,

@@ -7,9 +7,10 @@ ghost use Rattle.zir_astgen.specs.Site as spec;
 ghost use Rattle.zir_astgen.specs.Statements.{container_at};
 ghost use Rattle.zir_astgen.specs.Writing.{file, site, trees};
 
+use crate::calls::bytes_at;
 use crate::writer::{MISSING, Writer};
 use std::alloc::AllocError;
-use zir_form::{Form, primitive_of, token_bytes};
+use zir_form::{Form, primitive_of};
 use zir_scope::Target;
 use zw_base::Seq;
 
@@ -19,10 +20,7 @@ impl Writer<'_> {
     pub fn written_at(&self, token: u32) -> &[u8]
         ensures { result.now ≡ spec.written_at (file self.now) token }
     {
-        match self.source.outline.tokens.get(token as usize) {
-            Some(token) => token_bytes(self.source.text, token),
-            None => &[],
-        }
+        bytes_at(self.source.text, self.source.outline.tokens, token)
     }
 
     /// A local of the part, or one that the container around it captures.

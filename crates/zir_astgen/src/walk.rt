@@ -13,6 +13,7 @@ ghost use Rattle.zir_astgen.specs.Writing.{file, site, trees};
 use crate::around::{Place, layer_into, layer_within, pushed, stage_within};
 use crate::calls::kind_at;
 use crate::levels::Frames;
+use crate::outline::{is_apart, lead_of};
 use crate::piece::Piece;
 use crate::rows::rule_at;
 use crate::writer::{ABSENT, Writer};
@@ -32,27 +33,6 @@ pub struct Row<'a> {
 pub struct Visited {
     pub first: u32,
     pub line: u32,
-}
-
-/// Whether a node is in a part of its own.
-#[tactic(auto, unfolding(crate::specs::Trees::is_apart))]
-fn is_apart(rule: Rule) -> bool
-    ensures { result ≡ is_apart rule }
-{
-    same_rule(rule, Rule::Container) || same_rule(rule, Rule::Declaration)
-}
-
-/// The first token of a row, whose nodes lie before a number.
-#[tactic(auto, using(zir_scope::proofs::Trees::earlier_steps), unfolding(crate::specs::Parts::lead_of, zir_scope::specs::Syntax::row_in, zir_scope::specs::Syntax::inside_of))]
-pub fn lead_of(outline: &Outline<'_>, row: &[Kid], before: u32) -> u32
-    requires { are_earlier before row.now ≡ true }
-    ensures { result ≡ spec.lead_of (row_in outline.now row.now) }
-{
-    match row {
-        [Kid::Token(token), ..] => *token,
-        [Kid::Node(node), ..] => lead_of(outline, outline.kids(*node), *node),
-        [] => 0,
-    }
 }
 
 impl Writer<'_> {
