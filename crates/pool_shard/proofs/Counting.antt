@@ -9,7 +9,7 @@ use Rattle.pool_words.specs.declared.view.View.{View}
 use Rattle.pool_words.specs.Layout.{Row, half, used, start, rows_of, head, level, IsLayout}
 use Rattle.pool_words.specs.Rule.{In, HasRows, Extends, IsPool}
 use Rattle.pool_words.proofs.Members.{used-push, used-append, rows_of-append}
-use Rattle.pool_words.proofs.Places.{half_is, half_mono}
+use Rattle.pool_words.proofs.Places.{half_is, half_mono, halves, width_low}
 use Rattle.pool_shard.specs.Pairs.{Rows, GoesOn, IsAtNumbers, IsFullShard}
 use Rattle.pool_shard.specs.Looks.{IsSeat, Keeps, Touches, Adds, IsReadyShard, IsPart, IsRows}
 use Rattle.pool_shard.proofs.Publishing.{IsReady-keeps}
@@ -29,6 +29,10 @@ by_rows z v s n count taken p l x h = let m = most_rows z v s p l in let c = x.c
 
 pub by_words : (z : Layout) (v : View) (s n count taken left : ℕ) → IsPool z v.words v.log → s < z.shards → IsPart z v s count taken → left ≡ z.size - start z - taken → left < n + 1 → IsAtNumbers z v.log s n
 by_words z v s n count taken left p l x e h = let m = most_rows z v s p l in let c = x.summed in inr (omega arith)
+
+-- as many rows as a shard takes are few
+pub few_rows : (z : Layout) (count : ℕ) → IsLayout z → count < half z.top → count < 2 ^ 60
+few_rows z count l h = let a = halves z.top in let b = width_low z z.top l (omega arith) in omega arith
 
 pub GoesOn-of : (p q : Rows) → q.id ≡ p.id → q.view.layout ≡ p.view.layout → IsLayout q.view.layout → Extends p.view.log q.view.log → IsPool q.view.layout q.view.words q.view.log → GoesOn p q
 GoesOn-of p q e f laid x pool = record {

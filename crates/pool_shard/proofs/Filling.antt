@@ -10,6 +10,7 @@ use Rattle.pool_words.proofs.Levels.{HasRows-set}
 use Rattle.pool_words.proofs.Shards.{level_spared, levels_spare}
 use Rattle.pool_words.proofs.Growing.{fill_low, fill_high, fill_level, fill_else, next_long, heads_stay, moved, head_else, levels_all}
 use Rattle.pool_words.proofs.Orders.{Earlier-trans, head_same, level_same}
+use Rattle.pool_shard.proofs.Keeping.{Keeps-refl}
 use Rattle.pool_shard.specs.Looks.{Keeps, IsSpot, Touches, Fills, IsNextRow}
 
 pub same_shard : (z : Layout) (a b : List ℕ) → hash_of a ≡ hash_of b → shard_of z a ≡ shard_of z b
@@ -134,3 +135,6 @@ module _ (z : Layout) (w x : View) (s at : ℕ) (l : IsLayout z) (p : IsPool z w
     levels = λ t k o ne le. subst (λ y. level y x.words t k ≡ level y w.words t k) (sym lw) (move_levels t k o (subst (λ (y : Layout). k ≤ y.top) lw le));
     rows = λ t o. sym (m.owns t o).rows;
   }
+
+pub Touches-refl : (z : Layout) (s : ℕ) (v : View) → v.layout ≡ z → IsPool z v.words v.log → Touches s v v
+Touches-refl z s v e p = Touches-keeps s v v (Keeps-refl v (subst (λ y. IsPool y v.words v.log) (sym e) p))

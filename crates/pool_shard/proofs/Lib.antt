@@ -3,6 +3,7 @@ pub mod Readings
 pub mod Filling
 pub mod Publishing
 pub mod Knowing
+pub mod Logs
 pub mod Counting
 pub mod Starting
 pub mod Sharing

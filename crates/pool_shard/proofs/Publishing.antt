@@ -8,7 +8,7 @@ use Rattle.pool_words.specs.Views.{IsFree, Moves}
 use Rattle.pool_words.proofs.Members.{rows_of-push, rows_of-other}
 use Rattle.pool_words.proofs.Shards.{head_spared, level_spared, publish_head, publish_else, publish_spares}
 use Rattle.pool_words.proofs.Orders.{Earlier-trans, head_same, level_same}
-use Rattle.pool_shard.specs.Looks.{Keeps, IsSpot, IsOpen, IsReadyShard, Adds, HasNot}
+use Rattle.pool_shard.specs.Looks.{Keeps, IsSpot, IsOpen, IsReadyShard, Touches, Adds, HasNot}
 
 pub IsReady-keeps : (z : Layout) (u v : View) (s : ℕ) → u.layout ≡ z → s < z.shards → IsPool z u.words u.log → Keeps u v → In s u.writes → IsReadyShard z u.words s → IsReadyShard z v.words s
 IsReady-keeps z u v s e lt p k i ready l =
@@ -81,6 +81,22 @@ module _ (z : Layout) (v w : View) (slot : ℕ) (r : Row) (l : IsLayout z) (p : 
     added = subst (λ y. rows_of y (shard_of z r.1) w.log ≡ rows_of y (shard_of z r.1) v.log ++ r ∷ []) (sym e) (sym (same (shard_of z r.1) ours).rows ∙ rows_of-push z (shard_of z r.1) v.log r refl);
     ready = subst (λ y. IsReadyShard y w.words (shard_of z r.1)) (sym e) now_ready;
   }
+
+-- a row that is published after steps that touch its shard alone
+pub Adds-touched : (s : ℕ) (r : Row) (u v w : View) → In s u.writes → Touches s u v → Adds s r v w → Adds s r u w
+Adds-touched s r u v w i k a =
+    let z = k.layout in
+    let o : (t : ℕ) → In t u.writes → In t v.writes = λ t i. subst (In t) (sym k.writes) i in
+    record {
+      layout = a.layout ∙ z;
+      writes = a.writes ∙ k.writes;
+      later = Earlier-trans u.layout u.words u.log v.words v.log w.words w.log k.later (subst (λ y. Earlier y v.words v.log w.words w.log) z a.later);
+      heads = λ t i ne. subst (λ y. head y w.words t ≡ head y v.words t) z (a.heads t (o t i) ne) ∙ k.heads t i ne;
+      levels = λ t n i ne le. subst (λ y. level y w.words t n ≡ level y v.words t n) z (a.levels t n (o t i) ne (subst (λ (y : Layout). n ≤ y.top) (sym z) le)) ∙ k.levels t n i ne le;
+      rows = λ t i ne. subst (λ y. rows_of y t w.log ≡ rows_of y t v.log) z (a.rows t (o t i) ne) ∙ k.rows t i;
+      added = subst (λ y. rows_of y s w.log ≡ rows_of y s v.log ++ r ∷ []) z a.added ∙ ap (λ (l : List Row). l ++ r ∷ []) (k.rows s i);
+      ready = subst (λ y. IsReadyShard y w.words s) z a.ready;
+    }
 
 pub Adds-after : (s : ℕ) (r : Row) (u v w : View) → Keeps u v → In s u.writes → Adds s r v w → Adds s r u w
 Adds-after s r u v w k i a =

@@ -7,6 +7,7 @@ use Rattle.pool_words.specs.declared.view.View.{View}
 use Rattle.pool_words.specs.Layout.{Row, width, half, spot, level_at, base, used, rows_of, head, level, IsLayout}
 use Rattle.pool_words.specs.Rule.{In, HasRows, IsPool, Earlier}
 use Rattle.pool_words.specs.Views.{Falls, below}
+pub use Rattle.pool_shard.specs.Pairs.{HasNot}
 use Rattle.pool_shard.specs.Pairs.{PoolId}
 
 -- a seat at a table of this layout
@@ -38,10 +39,6 @@ pub record IsPassed (slots : List ℕ) (k : ℕ) (key : List ℕ) (log : List Ro
   pub there : In row log
   pub here : slice_index slots (spot key k d) ≡ row.0 + 1
   pub differs : row.1 ≡ key → ⊥
-
--- no row has the key
-abbrev pub HasNot : List Row → List ℕ → Type 0
-HasNot log key = (i : ℕ) → In (i, key) log → ⊥
 
 -- Steps that change the head and the levels of one shard alone
 pub record Touches (s : ℕ) (v w : View) : Type 0 where

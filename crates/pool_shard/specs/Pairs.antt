@@ -1,12 +1,12 @@
 -- The pairs of index and key that rows know, and when a shard takes no further row.
-use Rattle.std.specs.Prelude.{◌≡◌, ℕ, ◌+◌, ◌*◌, ◌^◌, ◌<◌, ◌≤◌, ◌⊎◌, List, [], ◌∷◌, length}
+use Rattle.std.specs.Prelude.{◌≡◌, ℕ, ◌+◌, ◌*◌, ◌^◌, ◌<◌, ◌≤◌, ◌⊎◌, List, [], ◌∷◌, ◌++◌, length}
 use Rattle.atomic_table.specs.Seated.{TableId}
 use Rattle.type_form.specs.Known.{Known}
 use Rattle.type_form.specs.Words.{index_of}
 use Rattle.pool_words.specs.declared.view.Layout.{Layout}
 use Rattle.pool_words.specs.declared.view.View.{View}
 use Rattle.pool_words.specs.Layout.{Row, used, start, rows_of, IsLayout}
-use Rattle.pool_words.specs.Rule.{Extends}
+use Rattle.pool_words.specs.Rule.{In, Extends}
 
 -- the published rows as pairs of index and key
 abbrev pub known_of : List Row → Known
@@ -49,6 +49,14 @@ pub record GoesOn (p q : Rows) : Type 0 where
   pub laid : IsLayout q.view.layout
   pub log : Extends p.view.log q.view.log
   pub most : (s : ℕ) → s < q.view.layout.shards → length (rows_of q.view.layout s q.view.log) ≤ 32 * 2 ^ q.view.layout.top
+
+-- no row has the key
+abbrev pub HasNot : List Row → List ℕ → Type 0
+HasNot log key = (i : ℕ) → In (i, key) log → ⊥
+
+-- the log as it was, or with this row at its end, whose key no other row has
+abbrev pub AddsAtMost : List Row → Row → List Row → Type 0
+AddsAtMost log r log' = (log' ≡ log) ⊎ ((log' ≡ log ++ r ∷ []) × HasNot log r.1)
 
 -- The shard is full: it has that many rows, or they leave fewer than 65 words
 abbrev pub IsFullShard : Layout → List Row → ℕ → Type 0

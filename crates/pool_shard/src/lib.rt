@@ -4,8 +4,9 @@
 //! The model: what a seat knows, the list `known` of pairs of index and key. `PoolRows` has one seat,
 //! which writes every shard; a `Pool` is shared among seats, with a lock for each shard's writer,
 //! and `PoolName` names it.
-//! Public calls: `PoolRows::open`, `find`, `key_into`, `intern`, `split`, `join` and `same_key`;
-//! `Pool::share`, `find`, `key_into`, `intern`, `split`, `join` and `close`; `RawSeat::same_key`.
+//! Public calls: `PoolRows::open`, `shards`, `words`, `find`, `key_into`, `intern`, `split`, `join` and
+//! `same_key`; `Pool::share`, `find`, `key_into`, `intern`, `split`, `join` and `close`;
+//! `RawSeat::same_key`.
 //! The crate stands on `pool_words` and `type_form`.
 #![tactic(auto)]
 

@@ -1,20 +1,19 @@
 // The pool's rows with one seat, which has the writer's part of every shard.
-ghost use Rattle.std.specs.Prelude.{◌≡◌, ℕ, ◌+◌, ◌*◌, ◌/◌, ◌<◌, ◌≤◌, ◌^◌, [], length, replicate, IsSome, IfSome, IfNone, IfOk, IfErr, MatchBool};
+ghost use Rattle.std.specs.Prelude.{◌≡◌, ℕ, ◌+◌, ◌*◌, ◌/◌, ◌<◌, ◌≤◌, ◌^◌, [], ◌∷◌, ◌++◌, length, replicate, IsSome, IfSome, IfNone, IfOk, IfErr, MatchBool};
 ghost use Rattle.type_form.specs.Known.{words_at, IsInjective};
 ghost use Rattle.type_form.specs.Known.{Keeps as KeepsWords};
 ghost use Rattle.type_form.specs.Means.{Grows};
 ghost use Rattle.pool_words.specs.Layout.{hash_of, shard_of, head, level, level_at, IsLayout};
 ghost use Rattle.pool_words.specs.Rule.{In, Extends, IsPool};
-ghost use Rattle.pool_shard.specs.Pairs.{known, pool_of, GoesOn, IsAtNumbers};
+ghost use Rattle.pool_shard.specs.Pairs.{known, pool_of, GoesOn, AddsAtMost, IsAtNumbers};
 ghost use Rattle.pool_shard.specs.Looks.{IsSpot, HasNot};
 
-use crate::add::{add_row, half_of, open_slot};
+use crate::add::add_key;
 use crate::find::{base_of, find_by, read_row, shard_by};
 use crate::hash::hash_key;
 use crate::look::look;
 use crate::probe::probe;
 use crate::seat::{RawSeat, copy, tell};
-use crate::write::start_of;
 use pool_words::{Layout, WordSeat, Words, open};
 use std::alloc::{AllocError, Global};
 use std::marker::Model;
@@ -107,6 +106,7 @@ impl PoolRows {
         ensures agrees { IsInjective (known self.new) }
         ensures found { IfSome result (λ i. words_at (known self.new) i ≡ Some key.now) }
         ensures absent { IfNone result ((i : Index) → words_at (known self.old) i ≡ Some key.now → ⊥) }
+        ensures same { self.new.view.log ≡ self.old.view.log }
     {
         match find_by(&self.words, &self.layout, &mut self.seat, key) {
             Some(place) => Some(Index(place as u64)),
@@ -121,6 +121,7 @@ impl PoolRows {
         ensures grows { Grows (known self.old) (known self.new) }
         ensures agrees { IsInjective (known self.new) }
         ensures words { words_at (known self.old) i ≡ Some into.new }
+        ensures same { self.new.view.log ≡ self.old.view.log }
     {
         read_row(
             &self.words,
@@ -141,6 +142,8 @@ impl PoolRows {
         ensures place { IfOk result (λ i. words_at (known self.new) i ≡ Some key.now) }
         ensures full { IfErr result (λ e. (e.shard ≡ shard_of self.new.view.layout key.now) × IsAtNumbers self.new.view.layout self.new.view.log e.shard (length key.now)) }
         ensures absent { IfErr result (λ e. (i : Index) → words_at (known self.new) i ≡ Some key.now → ⊥) }
+        ensures added { IfOk result (λ i. AddsAtMost self.old.view.log (i.0, key.now) self.new.view.log) }
+        ensures same { IfErr result (λ e. self.new.view.log ≡ self.old.view.log) }
     {
         let hash = hash_key(key);
         let shard = shard_by(&self.layout, hash);
@@ -161,6 +164,22 @@ impl PoolRows {
     {
         let _seat = &self.seat;
         i.0 == j.0
+    }
+
+    /// The number of shards.
+    pub fn shards(&self) -> u32
+        ensures value { result ≡ self.now.view.layout.shards }
+        ensures range { (0 < result) × (result ≤ 64) }
+    {
+        self.layout.shards as u32
+    }
+
+    /// The number of all words. The place of each row is below it.
+    pub fn words(&self) -> usize
+        ensures value { result ≡ self.now.view.layout.words }
+        ensures inside { (i : Index) → IsSome (words_at (known self.now) i) → i.0 < result }
+    {
+        self.layout.words
     }
 
     /// A seat that knows as much as the rows, and writes nothing.
@@ -206,35 +225,26 @@ impl PoolRows {
         ensures place { IfOk result (λ i. In (i.0, key.now) self.new.view.log) }
         ensures full { IfErr result (λ e. (e.shard ≡ shard) × IsAtNumbers self.new.view.layout self.new.view.log e.shard (length key.now)) }
         ensures absent { IfErr result (λ e. HasNot self.new.view.log key.now) }
+        ensures added { IfOk result (λ i. self.new.view.log ≡ self.old.view.log ++ (i.0, key.now) ∷ []) }
+        ensures same { IfErr result (λ e. self.new.view.log ≡ self.old.view.log) }
     {
         let count = self.counts[shard];
         let taken = self.sums[shard];
-        let left = self.layout.size - start_of(&self.layout) - taken;
-        if count >= half_of(&self.layout, self.layout.top) || left < key.len() + 1 {
-            return Err(Full {
-                shard: shard as u32,
-            });
-        }
-        let slot = open_slot(
+        let place = match add_key(
             &self.words,
             &self.layout,
             &mut self.seat,
             shard,
+            count,
+            taken,
             at,
             far,
             hash,
             key,
-            count,
-        );
-        let place = add_row(
-            &self.words,
-            &self.layout,
-            &mut self.seat,
-            shard,
-            slot,
-            taken,
-            key,
-        );
+        ) {
+            Ok(place) => place,
+            Err(full) => return Err(full),
+        };
         self.counts[shard] = count + 1;
         self.sums[shard] = taken + key.len() + 1;
         Ok(Index(place as u64))

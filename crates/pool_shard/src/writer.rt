@@ -5,14 +5,13 @@ ghost use Rattle.pool_words.specs.Layout.{hash_of, shard_of, head, level};
 ghost use Rattle.pool_shard.specs.Pairs.{IsAtNumbers};
 ghost use Rattle.pool_shard.specs.Looks.{IsSeat, IsSpot, HasNot, IsWriter};
 
-use crate::add::{add_row, half_of, open_slot};
+use crate::add::add_key;
 use crate::find::base_of;
 use crate::look::look;
 use crate::name::PoolName;
 use crate::probe::probe;
 use crate::rows::Full;
 use crate::seat::{copy, tell};
-use crate::write::start_of;
 use pool_words::{Layout, WordSeat, Words};
 use std::marker::{Model, PhantomData};
 use std::mem;
@@ -66,14 +65,11 @@ fn add_own(
     ensures full { IfErr result (λ e. (e.shard ≡ shard) × IsAtNumbers layout.now seat.new.me.0.log shard (length key.now)) }
     ensures absent { IfErr result (λ e. HasNot seat.new.me.0.log key.now) }
 {
-    let left = layout.size - start_of(layout) - *sum;
-    if *count >= half_of(layout, layout.top) || left < key.len() + 1 {
-        return Err(Full {
-            shard: shard as u32,
-        });
-    }
-    let slot = open_slot(words, layout, seat, shard, at, far, hash, key, *count);
-    let place = add_row(words, layout, seat, shard, slot, *sum, key);
+    let answer = add_key(words, layout, seat, shard, *count, *sum, at, far, hash, key);
+    let place = match answer {
+        Ok(place) => place,
+        Err(full) => return Err(full),
+    };
     *count += 1;
     *sum += key.len() + 1;
     Ok(place)

@@ -1,4 +1,4 @@
-use Rattle.std.proofs.Common.{◌≡◌, subst, sym, Some, IfSome, IfNone}
+use Rattle.std.proofs.Common.{◌≡◌, ◌∙◌, ap, subst, sym, Some, IfSome, IfNone}
 use Rattle.type_form.specs.declared.index.Index.{Index}
 use Rattle.type_form.specs.Known.{words_at}
 use Rattle.type_form.specs.Words.{index_of}
@@ -6,6 +6,7 @@ use Rattle.type_form.specs.Means.{Grows}
 use Rattle.pool_shard.specs.Pairs.{Rows, known, known_of}
 use Rattle.pool_shard.proofs.Counting.{IsRows-keeps, GoesOn-seat}
 use Rattle.pool_shard.proofs.Knowing.{known_in, pool_known, pool_injective, known_grows}
+use Rattle.pool_shard.proofs.Logs.{log_keeps}
 use Rattle.pool_shard.proofs.rows.PoolRows.find.Goals as goal
 use Rattle.pool_shard.proofs.rows.PoolRows.find.Goals.{in-Some, in-None}
 
@@ -44,3 +45,8 @@ pub returns-clause-rows : goal.returns-clause-rows
 returns-clause-rows c =
     let p = c.self.inside in
     GoesOn-seat p.layout p.words.shared.table_id p.seat c.find_by.new.seat c.args.self.now c.self.view_is c.self.invariant.seat c.find_by.ensures.seat c.find_by.ensures.keeps.later.grows
+
+pub returns-clause-same : goal.returns-clause-same
+returns-clause-same c =
+    let i = c.self.invariant in
+    log_keeps c.self.inside.layout c.self.inside.seat.me.0 c.find_by.new.seat.me.0 i.seat.layout i.seat.laid i.owns c.find_by.ensures.keeps ∙ ap (λ (p : Rows). p.view.log) c.self.view_is

@@ -1,18 +1,19 @@
-use Rattle.std.proofs.Common.{◌≡◌, ℕ, ◌∙◌, ap, subst, sym, Some, Result, Ok, Err, IfOk, IfErr, slice_index}
+use Rattle.std.proofs.Common.{◌≡◌, inl, inr, ℕ, List, [], ◌∷◌, ◌++◌, ◌∙◌, ap, subst, sym, Some, Result, Ok, Err, IfOk, IfErr, slice_index}
 use Rattle.type_form.specs.declared.index.Index.{Index}
 use Rattle.type_form.specs.Known.{words_at}
 use Rattle.type_form.specs.Words.{index_of}
 use Rattle.type_form.specs.Means.{Grows}
 use Rattle.pool_words.specs.declared.view.Layout.{Layout}
 use Rattle.pool_words.specs.declared.view.View.{View}
-use Rattle.pool_words.specs.Layout.{shard_of, head, base, IsLayout}
+use Rattle.pool_words.specs.Layout.{Row, shard_of, head, base, IsLayout}
 use Rattle.pool_words.specs.Rule.{In}
 use Rattle.pool_words.proofs.Members.{Extends-trans}
 use Rattle.pool_shard.specs.Looks.{Keeps, HasNot}
-use Rattle.pool_shard.specs.Pairs.{Rows, GoesOn, known, known_of}
+use Rattle.pool_shard.specs.Pairs.{Rows, GoesOn, AddsAtMost, known, known_of}
 use Rattle.pool_shard.proofs.Keeping.{Keeps-trans, still_new}
 use Rattle.pool_shard.proofs.Counting.{IsRows-keeps, GoesOn-seat, GoesOn-of}
 use Rattle.pool_shard.proofs.Knowing.{known_in, pool_known, pool_injective, known_grows}
+use Rattle.pool_shard.proofs.Logs.{log_keeps}
 use Rattle.pool_shard.proofs.rows.PoolRows.intern.Goals as goal
 
 pub invariant_of-self : goal.invariant_of-self
@@ -109,3 +110,28 @@ returns-in-Err-clause-rows c =
     let x = Extends-trans p.seat.me.0.log c.look-at.new.seat.me.0.log c.probe.new.seat.me.0.log c.look-at.ensures.keeps.later.grows c.probe.ensures.keeps.later.grows in
     let y = Extends-trans p.seat.me.0.log c.probe.new.seat.me.0.log n.view.log x c.add.ensures.grows.0 in
     subst (λ (q : Rows). GoesOn q n) c.self.view_is (GoesOn-of me n (c.add.ensures.table.0 ∙ (b.of ∙ sym a.of)) (c.add.ensures.table.1 ∙ (b.layout ∙ sym a.layout)) (subst IsLayout (sym (c.add.ensures.table.1 ∙ b.layout)) b.laid) y c.add.ensures.grows.1)
+
+pub returns-in-Ok-clause-added : goal.returns-in-Ok-clause-added
+returns-in-Ok-clause-added c =
+    let i = c.self.invariant in
+    let k = Keeps-trans c.self.inside.seat.me.0 c.look-at.new.seat.me.0 c.probe.new.seat.me.0 c.look-at.ensures.keeps c.probe.ensures.keeps in
+    inl (log_keeps c.self.inside.layout c.self.inside.seat.me.0 c.probe.new.seat.me.0 i.seat.layout i.seat.laid i.owns k ∙ ap (λ (p : Rows). p.view.log) c.self.view_is)
+
+pub returns-in-Err-clause-added : goal.returns-in-Err-clause-added
+returns-in-Err-clause-added c =
+    let i = c.self.invariant in
+    let k = Keeps-trans c.self.inside.seat.me.0 c.look-at.new.seat.me.0 c.probe.new.seat.me.0 c.look-at.ensures.keeps c.probe.ensures.keeps in
+    let e = log_keeps c.self.inside.layout c.self.inside.seat.me.0 c.probe.new.seat.me.0 i.seat.layout i.seat.laid i.owns k ∙ ap (λ (p : Rows). p.view.log) c.self.view_is in
+    let s = c.shard_by-shard.result in
+    let z : s ≡ shard_of c.self.inside.layout c.args.key.now = c.shard_by-shard.ensures.shard c.args.key.now c.hash_key-hash.ensures in
+    let v = c.look-at.new.seat.me.0 in
+    let o = subst (λ t. In t v.writes) z (subst (In s) (sym c.look-at.ensures.keeps.writes) (i.owns s c.shard_by-shard.ensures.inside)) in
+    let none : HasNot c.args.self.now.view.log c.args.key.now = subst (λ (l : List Row). HasNot l c.args.key.now) e (still_new v c.probe.new.seat.me.0 c.self.inside.layout c.args.key.now c.look-at.ensures.seat.layout c.probe.ensures.keeps o c.in-Err.ensures.absent) in
+    if_ok c.add.result (λ i. c.add.new.self.view.log ≡ c.probe.new.seat.me.0.log ++ (i.0, c.args.key.now) ∷ []) (λ i. AddsAtMost c.args.self.now.view.log (i.0, c.args.key.now) c.add.new.self.view.log) (λ i h. inr (h ∙ ap (λ (l : List Row). l ++ (i.0, c.args.key.now) ∷ []) e, none)) c.add.ensures.added
+
+pub returns-in-Err-clause-same : goal.returns-in-Err-clause-same
+returns-in-Err-clause-same c =
+    let i = c.self.invariant in
+    let k = Keeps-trans c.self.inside.seat.me.0 c.look-at.new.seat.me.0 c.probe.new.seat.me.0 c.look-at.ensures.keeps c.probe.ensures.keeps in
+    let e = log_keeps c.self.inside.layout c.self.inside.seat.me.0 c.probe.new.seat.me.0 i.seat.layout i.seat.laid i.owns k ∙ ap (λ (p : Rows). p.view.log) c.self.view_is in
+    if_err c.add.result (λ _. c.add.new.self.view.log ≡ c.probe.new.seat.me.0.log) (λ _. c.add.new.self.view.log ≡ c.args.self.now.view.log) (λ _ h. h ∙ e) c.add.ensures.same

@@ -4,6 +4,7 @@ use Rattle.type_form.specs.Means.{Grows}
 use Rattle.pool_shard.specs.Pairs.{Rows, known, known_of}
 use Rattle.pool_shard.proofs.Counting.{IsRows-keeps, GoesOn-seat}
 use Rattle.pool_shard.proofs.Knowing.{known_in, known_some, pool_injective, known_grows}
+use Rattle.pool_shard.proofs.Logs.{log_keeps}
 use Rattle.pool_shard.proofs.rows.PoolRows.key_into.Goals as goal
 
 pub read_row-requires-clause-row : goal.read_row-requires-clause-row
@@ -35,3 +36,8 @@ pub returns-clause-rows : goal.returns-clause-rows
 returns-clause-rows c =
     let p = c.self.inside in
     GoesOn-seat p.layout p.words.shared.table_id p.seat c.read_row.new.seat c.args.self.now c.self.view_is c.self.invariant.seat c.read_row.ensures.seat c.read_row.ensures.keeps.later.grows
+
+pub returns-clause-same : goal.returns-clause-same
+returns-clause-same c =
+    let i = c.self.invariant in
+    log_keeps c.self.inside.layout c.self.inside.seat.me.0 c.read_row.new.seat.me.0 i.seat.layout i.seat.laid i.owns c.read_row.ensures.keeps ∙ ap (λ (p : Rows). p.view.log) c.self.view_is
