@@ -1,1 +1,9 @@
+pub mod Closing
+pub mod Depths
 pub mod Kept
+pub mod Moved
+pub mod Moving
+pub mod Parts
+pub mod RowMoves
+pub mod RowResults
+pub mod Trees

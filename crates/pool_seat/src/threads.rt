@@ -35,7 +35,7 @@ fn work<N: PoolName, R: Wait, G: Gate>(
     seat: RawSeat,
     gate: &G,
     keys: &[(u64, u64)],
-) -> Option<(Note, Vec<u64>)>
+) -> Answer
     requires { pool_of seat ≡ N.pool }
     ensures { IfSome result (λ t. pool_of t.0 ≡ N.pool) }
 {
@@ -63,8 +63,39 @@ fn finds_all<I: Keys>(seat: &mut I, keys: &[(u64, u64)], places: &[u64]) -> bool
     true
 }
 
-/// Four threads intern the same keys. Whether all agree, with a seat that met their notes and with
-/// the rows that come back.
+/// What a thread answers: its note, and the places of its keys.
+type Answer = Option<(Note, Vec<u64>)>;
+
+/// Four threads intern the same keys.
+fn work_of_four<N: PoolName + Send + Sync, R: Threads + Wait + Sync>(
+    rt: &R,
+    alloc: Global,
+    pool: &Pool<N>,
+    seat: &mut RawSeat,
+    keys: &[(u64, u64)],
+) -> ((Answer, Answer), (Answer, Answer))
+    requires { pool_of seat.old ≡ N.pool }
+    ensures seat { pool_of seat.new ≡ N.pool }
+    ensures left { IfSome result.0.0 (λ t. pool_of t.0 ≡ N.pool) × IfSome result.0.1 (λ t. pool_of t.0 ≡ N.pool) }
+    ensures right { IfSome result.1.0 (λ t. pool_of t.0 ≡ N.pool) × IfSome result.1.1 (λ t. pool_of t.0 ≡ N.pool) }
+{
+    let a = pool.split(seat);
+    let b = pool.split(seat);
+    let c = pool.split(seat);
+    let d = pool.split(seat);
+    let gate = &NoGate;
+    let left = move || -> (Answer, Answer)
+        requires { (pool_of a ≡ N.pool) × (pool_of b ≡ N.pool) }
+        ensures { IfSome result.0 (λ t. pool_of t.0 ≡ N.pool) × IfSome result.1 (λ t. pool_of t.0 ≡ N.pool) }
+    { two(rt, alloc, pool, a, b, gate, keys) };
+    let right = move || -> (Answer, Answer)
+        requires { (pool_of c ≡ N.pool) × (pool_of d ≡ N.pool) }
+        ensures { IfSome result.0 (λ t. pool_of t.0 ≡ N.pool) × IfSome result.1 (λ t. pool_of t.0 ≡ N.pool) }
+    { two(rt, alloc, pool, c, d, gate, keys) };
+    join(rt, left, right)
+}
+
+/// Whether four threads agree, with a seat that met their notes and with the rows that come back.
 fn four<N: PoolName + Send + Sync, R: Threads + Wait + Sync>(
     rt: &R,
     alloc: Global,
@@ -77,25 +108,12 @@ fn four<N: PoolName + Send + Sync, R: Threads + Wait + Sync>(
         return None;
     };
     let pool = &shared;
-    let a = pool.split(&mut seat);
-    let b = pool.split(&mut seat);
-    let c = pool.split(&mut seat);
-    let d = pool.split(&mut seat);
-    let gate = &NoGate;
-    let left = move || -> (Option<(Note, Vec<u64>)>, Option<(Note, Vec<u64>)>)
-        requires { (pool_of a ≡ N.pool) × (pool_of b ≡ N.pool) }
-        ensures { IfSome result.0 (λ t. pool_of t.0 ≡ N.pool) × IfSome result.1 (λ t. pool_of t.0 ≡ N.pool) }
-    { two(rt, alloc, pool, a, b, gate, keys) };
-    let right = move || -> (Option<(Note, Vec<u64>)>, Option<(Note, Vec<u64>)>)
-        requires { (pool_of c ≡ N.pool) × (pool_of d ≡ N.pool) }
-        ensures { IfSome result.0 (λ t. pool_of t.0 ≡ N.pool) × IfSome result.1 (λ t. pool_of t.0 ≡ N.pool) }
-    { two(rt, alloc, pool, c, d, gate, keys) };
-    let (first, second) = join(rt, left, right);
+    let (first, second) = work_of_four(rt, alloc, pool, &mut seat, keys);
     let (first_note, first_places) = first.0?;
     let (second_note, second_places) = first.1?;
     let (third_note, third_places) = second.0?;
     let (fourth_note, fourth_places) = second.1?;
-    let mut all = PoolSeat::new(rt, pool, seat, gate);
+    let mut all = PoolSeat::new(rt, pool, seat, &NoGate);
     all.meet(first_note);
     all.meet(second_note);
     all.meet(third_note);
@@ -118,15 +136,15 @@ fn two<N: PoolName + Send + Sync, R: Threads + Wait + Sync, G: Gate + Sync>(
     b: RawSeat,
     gate: &G,
     keys: &[(u64, u64)],
-) -> (Option<(Note, Vec<u64>)>, Option<(Note, Vec<u64>)>)
+) -> (Answer, Answer)
     requires { (pool_of a ≡ N.pool) × (pool_of b ≡ N.pool) }
     ensures { IfSome result.0 (λ t. pool_of t.0 ≡ N.pool) × IfSome result.1 (λ t. pool_of t.0 ≡ N.pool) }
 {
-    let first = move || -> Option<(Note, Vec<u64>)>
+    let first = move || -> Answer
         requires { pool_of a ≡ N.pool }
         ensures { IfSome result (λ t. pool_of t.0 ≡ N.pool) }
     { work(rt, alloc, pool, a, gate, keys) };
-    let second = move || -> Option<(Note, Vec<u64>)>
+    let second = move || -> Answer
         requires { pool_of b ≡ N.pool }
         ensures { IfSome result (λ t. pool_of t.0 ≡ N.pool) }
     { work(rt, alloc, pool, b, gate, keys) };
@@ -265,7 +283,7 @@ fn held<N: PoolName + Send + Sync, R: Threads + Wait + Sync>(
     };
     let pool = &shared;
     let a = pool.split(&mut seat);
-    let writer = move || -> Option<(Note, Vec<u64>)>
+    let writer = move || -> Answer
         requires { pool_of a ≡ N.pool }
     { work(rt, alloc, pool, a, gate, &[(2, 2)]) };
     let finder = move || -> (Option<Index>, Option<Index>)
