@@ -3,11 +3,12 @@ ghost use Rattle.std.specs.Prelude.{◌≡◌};
 ghost use Rattle.pool_shard.specs.Pairs.{pool_of};
 
 use pool_seat::PoolSeat;
-use pool_shard::{NoGate, Pool, PoolName, RawSeat};
+use pool_shard::{Pool, PoolName, RawSeat};
 use std::io;
 use std::thread::{Threads, join};
 use std::time::{Clock, CpuClock, Duration, Instant};
 use type_form::Keys;
+use zw_base::NoGate;
 
 /// What a round's threads found, by the clock and by the time of all processors.
 #[derive(Drop)]

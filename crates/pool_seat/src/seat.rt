@@ -8,10 +8,11 @@ ghost use Rattle.pool_shard.specs.Pairs.{known, pool_of, GoesOn};
 ghost use Rattle.pool_seat.specs.Seats.{pairs, IsFullFor};
 
 use crate::note::Note;
-use pool_shard::{Gate, Pool, PoolName, RawSeat};
+use pool_shard::{Pool, PoolName, RawSeat};
 use std::marker::Model;
 use std::sync::Wait;
 use type_form::{Index, InternFault, Interner, KeyBuf, Keys};
+use zw_base::Gate;
 
 /// An interner over a shared pool. Only `intern` may wait for another thread.
 #[derive(Drop)]

@@ -3,7 +3,7 @@ ghost use Rattle.std.specs.Prelude.{◌≡◌, IfSome};
 ghost use Rattle.pool_shard.specs.Pairs.{pool_of};
 
 use crate::{Note, PoolSeat, SoleSeat};
-use pool_shard::{Gate, NoGate, Pool, PoolName, PoolRows, RawSeat, hash_key};
+use pool_shard::{Pool, PoolName, PoolRows, RawSeat, hash_key};
 use std::alloc::Global;
 use std::marker::Brand;
 use std::sync::Wait;
@@ -12,6 +12,7 @@ use std::test::Fail;
 use std::thread;
 use std::thread::{Threads, join};
 use type_form::{Index, InternFault, Interner, Keys};
+use zw_base::{Gate, NoGate};
 
 /// As many keys of two words for each of four shards.
 fn keys_of(alloc: Global, each: u64) -> Option<Vec<(u64, u64)>> {

@@ -7,12 +7,11 @@
 //! Public calls: `PoolRows::open`, `shards`, `words`, `find`, `key_into`, `intern`, `split`, `join` and
 //! `same_key`; `Pool::share`, `find`, `key_into`, `intern`, `split`, `join` and `close`;
 //! `RawSeat::same_key`.
-//! The crate stands on `pool_words` and `type_form`.
+//! The crate stands on `pool_words`, `type_form` and `zw_base`.
 #![tactic(auto)]
 
 mod add;
 mod find;
-mod gate;
 mod gather;
 mod hash;
 mod look;
@@ -26,7 +25,6 @@ mod tests;
 mod write;
 mod writer;
 
-pub use gate::{Gate, NoGate};
 pub use hash::hash_key;
 pub use name::PoolName;
 pub use pool::{Pool, ShareFault};

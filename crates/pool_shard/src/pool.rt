@@ -11,7 +11,6 @@ ghost use Rattle.pool_shard.specs.Looks.{IsSeat, HasNot, IsPart};
 ghost use Rattle.pool_shard.specs.declared.pool.ShareFault.TheVariants.{OutOfMemory};
 
 use crate::find::{find_by, read_row, shard_by};
-use crate::gate::Gate;
 use crate::gather::take_over;
 use crate::hash::hash_key;
 use crate::name::PoolName;
@@ -23,6 +22,7 @@ use std::alloc::Global;
 use std::marker::{Model, PhantomData};
 use std::sync::{Mutex, Wait};
 use type_form::{Index, KeyBuf};
+use zw_base::Gate;
 
 /// Why rows are not shared. They come back as they were.
 #[derive(Drop)]
