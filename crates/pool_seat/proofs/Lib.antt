@@ -3,6 +3,7 @@ pub mod Depths
 pub mod Kept
 pub mod Moved
 pub mod Moving
+pub mod Ordering
 pub mod Parts
 pub mod RowMoves
 pub mod RowResults

@@ -1,5 +1,5 @@
 -- How the mover of rows goes on.
-use Rattle.std.specs.Prelude.{◌≡◌, ℕ, zero, suc, ◌+◌, ◌*◌, ◌<◌, max, Bool, true, false, if◌then◌else◌, List, [], ◌∷◌, length, slice_index, IsSome, is_some, Some, unwrap_or}
+use Rattle.std.specs.Prelude.{◌≡◌, ℕ, zero, suc, ◌+◌, ◌*◌, ◌<◌, max, Bool, true, false, if◌then◌else◌, List, [], ◌∷◌, ◌++◌, length, slice_index, IsSome, is_some, Some, unwrap_or}
 use Rattle.type_form.specs.declared.index.Index.{Index}
 use Rattle.type_form.specs.Known.{Known, words_at, Keeps}
 use Rattle.type_form.specs.Words.{index_of}
@@ -7,7 +7,8 @@ use Rattle.type_form.specs.Denote.{reading, denoted, list_in}
 use Rattle.pool_words.specs.Rule.{In}
 use Rattle.pool_shard.specs.Pairs.{known}
 use Rattle.pool_seat.specs.Reach.{Reached}
-use Rattle.pool_seat.specs.Moves.{IsSame, IsMoved, IsListMoved, IsNewKey, HasMoved, IsFull, SameRows}
+use Rattle.pool_seat.specs.Moves.{IsSame, Pairs, IsMoved, IsListMoved, IsNewKey, HasMoved, IsFull, SameRows}
+use Rattle.pool_seat.specs.Order.{own, Listed, AllListed, adding, olds}
 use Rattle.pool_seat.specs.declared.roles.Role.{Role}
 use Rattle.pool_seat.specs.declared.roles.Role.TheVariants as role
 use Rattle.pool_seat.specs.declared.mover.Mover.{Mover}
@@ -96,12 +97,50 @@ pub record Later (m n : Mover) : Type 0 where
   pub long : length n.table.items ≡ length m.table.items
   pub moved : (i j : ℕ) → IsMoved m.moved.items i j → IsMoved n.moved.items i j
 
--- the table has a place for each index, and at each that was moved its new index plus 1
+-- the tree of an index, which was moved
+pub record HasTree (k : Known) (moved : Pairs) (of_parts : Bool) (i : ℕ) : Type 0 where
+  pub listing : List ℕ
+  pub listed : Listed k of_parts i listing
+  pub moved_all : (n : ℕ) → In n listing → In n (olds moved)
+
+-- the tree of an index, of which all that its key holds was moved
+pub record HasParts (k : Known) (moved : Pairs) (of_parts : Bool) (i : ℕ) : Type 0 where
+  pub listing : List ℕ
+  pub listed : Listed k of_parts i (listing ++ own of_parts i)
+  pub moved_all : (n : ℕ) → In n listing → In n (olds moved)
+
+-- what was moved before, and then the tree of an index
+pub record AddsTree (k : Known) (of_parts : Bool) (i : ℕ) (before after : Pairs) : Type 0 where
+  pub listing : List ℕ
+  pub listed : Listed k of_parts i listing
+  pub adds : olds after ≡ adding (olds before) listing
+
+-- the same without the index itself
+pub record AddsParts (k : Known) (of_parts : Bool) (i : ℕ) (before after : Pairs) : Type 0 where
+  pub listing : List ℕ
+  pub listed : Listed k of_parts i (listing ++ own of_parts i)
+  pub adds : olds after ≡ adding (olds before) listing
+
+-- the same for a word of a key
+abbrev pub WordAdds : Known → Role → ℕ → Pairs → Pairs → Type 0
+WordAdds k role.Number w before after = olds after ≡ olds before
+WordAdds k role.Part w before after = AddsTree k false w before after
+WordAdds k role.List w before after = AddsTree k true w before after
+WordAdds k role.Rest w before after = olds after ≡ olds before
+
+-- the same for the trees of some indices
+pub record AddsAll (k : Known) (live : List Index) (before after : Pairs) : Type 0 where
+  pub listing : List ℕ
+  pub listed : AllListed k live listing
+  pub adds : olds after ≡ adding (olds before) listing
+
+-- the table has a place for each index, and at each that was moved its new index plus 1. The tree of each that was moved was moved
 pub record IsMover (m : Mover) : Type 0 where
   pub has : HasMoved (known m.from) m.live.now m.to m.moved.items
   pub inside : (i : Index) → IsSome (words_at (known m.from) i) → i.0 < length m.table.items
   pub listed : (i j : ℕ) → slice_index m.table.items i ≡ suc j → IsMoved m.moved.items i j
   pub entered : (i j : Index) → In (i, j) m.moved.items → slice_index m.table.items i.0 ≡ suc j.0
+  pub trees : (i j : ℕ) → IsMoved m.moved.items i j → HasTree (known m.from) m.moved.items false i
 
 -- why no more is moved
 abbrev pub IsStop : Mover → Stop → Type 0

@@ -4,6 +4,7 @@ ghost use Rattle.type_form.specs.Denote.{denoted};
 ghost use Rattle.pool_words.specs.Rule.{In};
 ghost use Rattle.pool_shard.specs.Pairs.{known};
 ghost use Rattle.pool_seat.specs.Moves.{IsRehomed, IsOpened};
+ghost use Rattle.pool_seat.specs.Order.{IsInOrder};
 ghost use Rattle.pool_seat.specs.Rehoming.{GivesBack, IsFullAnswer};
 
 use crate::mover::{Mover, Stop};
@@ -40,7 +41,8 @@ fn zeros(alloc: Global, count: usize) -> Result<Vec<u64>, AllocError>
 /// so many words, and answers the pairs of old and new indices.
 ///
 /// A list of numbers is moved as these numbers. The lists that keys hold of parts are made again
-/// with the parts' new indices, and have no pair of their own.
+/// with the parts' new indices, and have no pair of their own. The pairs stand in the order of
+/// `live`, each behind those of what its key holds, these from the left, and once.
 pub fn rehome(
     alloc: Global,
     old: PoolRows,
@@ -51,6 +53,7 @@ pub fn rehome(
     requires denote { (i : Index) → In i live.now → IsSome (denoted (known old) i) }
     ensures opened { IfOk result (λ r. IsOpened old.view.layout.shards words r.rows) }
     ensures moved { IfOk result (λ r. IsRehomed (known old) live.now r.rows r.moved) }
+    ensures ordered { IfOk result (λ r. IsInOrder (known old) live.now r.moved) }
     ensures back { IfErr result (GivesBack old) }
     ensures full { IfErr result (IsFullAnswer old live.now words) }
 {

@@ -7,7 +7,8 @@ ghost use Rattle.pool_words.specs.Rule.{In};
 ghost use Rattle.pool_shard.specs.Pairs.{known};
 ghost use Rattle.pool_seat.specs.Reach.{Reached};
 ghost use Rattle.pool_seat.specs.Moves.{IsMoved, Becomes, IsNewKey};
-ghost use Rattle.pool_seat.specs.Movers.{Needs, WordNeeds, WordReached, WordBecomes, HasRow, IsChain, Later, IsMover, IsStop};
+ghost use Rattle.pool_seat.specs.Order.{added, olds};
+ghost use Rattle.pool_seat.specs.Movers.{Needs, WordNeeds, WordReached, WordBecomes, HasRow, IsChain, Later, HasTree, HasParts, AddsTree, AddsParts, WordAdds, AddsAll, IsMover, IsStop};
 ghost use Rattle.pool_seat.specs.declared.mover.Stop.TheVariants.{OutOfMemory};
 
 use crate::roles::{Role, role_of};
@@ -43,6 +44,7 @@ impl<'a> Mover<'a> {
         requires known { IsSome (words_at (known self.old.from) (index_of i)) }
         ensures mover { IsMover self.new }
         ensures later { Later self.old self.new }
+        ensures same { self.new.moved.items ≡ self.old.moved.items }
         ensures words { words_at (known self.old.from) (index_of i) ≡ Some into.new }
     {
         self.from.key_into(Index(i), into);
@@ -56,6 +58,7 @@ impl<'a> Mover<'a> {
         requires new { (of_parts : Bool) × (i : ℕ) × Reached (known self.old.from) self.old.live.now of_parts i × IsNewKey (known self.old.from) (known self.old.to) self.old.moved.items of_parts i key.now }
         ensures mover { IsMover self.new }
         ensures later { Later self.old self.new }
+        ensures same { self.new.moved.items ≡ self.old.moved.items }
         ensures place { IfOk result (λ j. words_at (known self.new.to) (index_of j) ≡ Some key.now) }
         ensures stop { IfErr result (IsStop self.new) }
     {
@@ -81,9 +84,11 @@ impl<'a> Mover<'a> {
         requires mover { IsMover self.old }
         requires reached { Reached (known self.old.from) self.old.live.now false i }
         requires row { HasRow self.old false i j }
+        requires parts { HasParts (known self.old.from) self.old.moved.items false i }
         ensures mover { IsMover self.new }
         ensures later { Later self.old self.new }
         ensures moved { IfOk result (IsMoved self.new.moved.items i) }
+        ensures adds { OnOk result (olds self.new.moved.items ≡ added (olds self.old.moved.items) i) }
         ensures stop { IfErr result (IsStop self.new) }
     {
         if let Some(known) = self.find(i) {
@@ -106,6 +111,7 @@ impl<'a> Mover<'a> {
         requires known { IsSome (denoted (known self.old.from) (index_of i)) }
         ensures mover { IsMover self.new }
         ensures later { Later self.old self.new }
+        ensures same { self.new.moved.items ≡ self.old.moved.items }
         ensures chain { IfOk result (IsChain (known self.old.from) i chunks.new.items) }
         ensures last { IfOk result (λ e. (x : ℕ) (ns : List ℕ) → words_at (known self.old.from) (index_of e) ≡ Some (31 ∷ x ∷ ns) → ⊥) }
         ensures stop { IfErr result (IsStop self.new) }
@@ -132,11 +138,12 @@ impl<'a> Mover<'a> {
         ensures mover { IsMover self.new }
         ensures later { Later self.old self.new }
         ensures live { OnOk result ((i : Index) → In i self.new.live.now → (j : ℕ) × IsMoved self.new.moved.items i.0 j) }
+        ensures adds { OnOk result (AddsAll (known self.old.from) self.old.live.now self.old.moved.items self.new.moved.items) }
         ensures stop { IfErr result (IsStop self.new) }
     {
         let live = self.live;
-        for i in live {
-            self.visit(i.0, false)?;
+        for at in 0..live.len() {
+            self.visit(live[at].0, false)?;
         }
         Ok(())
     }
@@ -151,6 +158,7 @@ impl<'a> Mover<'a> {
         ensures mover { IsMover self.new }
         ensures later { Later self.old self.new }
         ensures moved { IfOk result (Becomes (known self.new.from) (known self.new.to) self.new.moved.items of_parts i) }
+        ensures adds { OnOk result (AddsTree (known self.old.from) of_parts i self.old.moved.items self.new.moved.items) }
         ensures stop { IfErr result (IsStop self.new) }
     {
         let mut chunks = Vec::new(self.alloc);
@@ -169,9 +177,11 @@ impl<'a> Mover<'a> {
         requires needs { Needs (known self.old.from) of_parts i }
         requires reached { Reached (known self.old.from) self.old.live.now of_parts i }
         requires rest { (x : ℕ) (ns : List ℕ) → words_at (known self.old.from) (index_of i) ≡ Some (31 ∷ x ∷ ns) → Becomes (known self.old.from) (known self.old.to) self.old.moved.items of_parts x rest }
+        requires tree { (x : ℕ) (ns : List ℕ) → words_at (known self.old.from) (index_of i) ≡ Some (31 ∷ x ∷ ns) → HasTree (known self.old.from) self.old.moved.items of_parts x }
         ensures mover { IsMover self.new }
         ensures later { Later self.old self.new }
         ensures moved { IfOk result (Becomes (known self.new.from) (known self.new.to) self.new.moved.items of_parts i) }
+        ensures adds { OnOk result (AddsTree (known self.old.from) of_parts i self.old.moved.items self.new.moved.items) }
         ensures stop { IfErr result (IsStop self.new) }
     {
         let new = self.row(i, of_parts, rest)?;
@@ -185,9 +195,11 @@ impl<'a> Mover<'a> {
         requires needs { Needs (known self.old.from) of_parts i }
         requires reached { Reached (known self.old.from) self.old.live.now of_parts i }
         requires rest { (x : ℕ) (ns : List ℕ) → words_at (known self.old.from) (index_of i) ≡ Some (31 ∷ x ∷ ns) → Becomes (known self.old.from) (known self.old.to) self.old.moved.items of_parts x rest }
+        requires tree { (x : ℕ) (ns : List ℕ) → words_at (known self.old.from) (index_of i) ≡ Some (31 ∷ x ∷ ns) → HasTree (known self.old.from) self.old.moved.items of_parts x }
         ensures mover { IsMover self.new }
         ensures later { Later self.old self.new }
         ensures moved { IfOk result (HasRow self.new of_parts i) }
+        ensures adds { OnOk result (AddsParts (known self.old.from) of_parts i self.old.moved.items self.new.moved.items) }
         ensures stop { IfErr result (IsStop self.new) }
     {
         let mut words = KeyBuf::new();
@@ -212,6 +224,7 @@ impl<'a> Mover<'a> {
         ensures mover { IsMover self.new }
         ensures later { Later self.old self.new }
         ensures moved { IfOk result (WordBecomes self.new role rest word) }
+        ensures adds { OnOk result (WordAdds (known self.old.from) role word self.old.moved.items self.new.moved.items) }
         ensures stop { IfErr result (IsStop self.new) }
     {
         match role {

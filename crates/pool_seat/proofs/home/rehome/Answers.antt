@@ -2,7 +2,8 @@ use Rattle.std.proofs.Common.{◌≡◌, ℕ, zero, suc, ◌<◌, List, length, 
 use Rattle.std.proofs.lemmas.List.{length-replicate}
 use Rattle.type_form.specs.declared.index.Index.{Index}
 use Rattle.pool_shard.specs.Pairs.{known, known_of}
-use Rattle.pool_seat.specs.Moves.{IsMoved, HasMoved, IsRehomed}
+use Rattle.pool_seat.specs.Moves.{Pairs, IsMoved, HasMoved, IsRehomed}
+use Rattle.pool_seat.specs.Order.{adding, olds, IsInOrder}
 use Rattle.pool_seat.proofs.Closing.{rehomed, nothing_moved}
 use Rattle.pool_seat.proofs.home.rehome.Goals as goal
 
@@ -25,6 +26,7 @@ all-answer-requires-clause-mover c =
       inside = λ i s. let w = c.words.ensures.inside i s in subst (λ x. i.0 < x) (sym n) w;
       listed = λ i j s. absurd (not_zero (slice_index t i) j (ap (λ (ns : List ℕ). slice_index ns i) z ∙ zero_there c.words.result i) s);
       entered = λ i j s. absurd (subst (λ l. IsMoved l i.0 j.0) e s);
+      trees = λ i j s. absurd (subst (λ l. IsMoved l i j) e s);
     }
 
 pub returns-in-Ok-answer-clause-moved : goal.returns-in-Ok-answer-clause-moved
@@ -35,3 +37,10 @@ returns-in-Ok-answer-clause-moved c =
     let from : known n.from ≡ k = ap known_of later.from.log in
     let live : n.live.now ≡ c.args.live.now = ap (λ (b : Bor (List Index)). b.now) later.live in
     subst (IsRehomed k c.args.live.now n.to) (sym c.of.ensures) (rehomed k c.args.live.now n c.all-answer.ensures.mover from live c.in-Ok-answer.ensures.live)
+
+pub returns-in-Ok-answer-clause-ordered : goal.returns-in-Ok-answer-clause-ordered
+returns-in-Ok-answer-clause-ordered c =
+    let n = c.all-answer.new.self in
+    let k = known c.args.old in
+    let a = c.in-Ok-answer.ensures.adds in
+    subst (IsInOrder k c.args.live.now) (sym c.of.ensures) (record { listing = a.listing; listed = a.listed; order = a.adds ∙ ap (λ (t : Pairs). adding (olds t) a.listing) c.new.ensures.items })

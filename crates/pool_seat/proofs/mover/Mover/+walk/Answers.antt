@@ -1,4 +1,4 @@
-use Rattle.std.proofs.Common.{◌≡◌, ⊎_elim, ℕ, suc, ◌+◌, ◌-◌, ◌*◌, ◌<◌, ◌≤◌, List, [], ◌∷◌, ◌++◌, length, slice_index, drop, Some, Option, Result, Ok, Err, IfOk, sym, ap, ◌∙◌, subst, arith, length-append}
+use Rattle.std.proofs.Common.{◌≡◌, ⊎_elim, ℕ, suc, ◌+◌, ◌-◌, ◌*◌, ◌<◌, ◌≤◌, List, [], ◌∷◌, ◌++◌, length, slice_index, drop, Some, Option, Result, Ok, Err, IfOk, OnOk, Bool, false, sym, ap, ap₂, ◌∙◌, subst, arith, rules, length-append}
 use Rattle.std.proofs.lemmas.Bool.{cases_lt}
 use Rattle.type_form.specs.Known.{words_at}
 use Rattle.type_form.specs.Words.{index_of}
@@ -6,12 +6,16 @@ use Rattle.type_form.specs.Denote.{denoted}
 use Rattle.pool_shard.specs.Pairs.{known}
 use Rattle.pool_seat.specs.Roles.{role_at}
 use Rattle.pool_seat.specs.Reach.{Reached}
-use Rattle.pool_seat.specs.Moves.{Becomes, IsNewKey}
-use Rattle.pool_seat.specs.Movers.{Needs, WordBecomes, WordNeeds, WordReached, HasRow, IsChain, work, word_work}
+use Rattle.pool_seat.specs.declared.roles.Role.TheVariants as role
+use Rattle.pool_seat.specs.declared.mover.Mover.{Mover}
+use Rattle.pool_seat.specs.Moves.{Pairs, Becomes, IsNewKey}
+use Rattle.pool_seat.specs.Order.{added, olds}
+use Rattle.pool_seat.specs.Movers.{Needs, WordBecomes, WordNeeds, WordReached, HasRow, IsChain, work, word_work, Later, HasTree, HasParts, AddsTree, AddsParts, WordAdds}
 use Rattle.pool_seat.proofs.Moving.{denoted_words, Later-trans, Later-known, new_key_later}
 use Rattle.pool_seat.proofs.Depths.{some_of}
-use Rattle.pool_seat.proofs.RowMoves.{needs_some, row_starts, row_fits, chain_needs, chain_pop, chain_reached, word_reached}
-use Rattle.pool_seat.proofs.RowResults.{WordBecomes-later, row_means, push_before, push_last, word_behind, key_done}
+use Rattle.pool_seat.proofs.RowMoves.{needs_some, rest_role, row_starts, row_fits, chain_needs, chain_pop, chain_reached, word_reached}
+use Rattle.pool_seat.proofs.RowResults.{WordBecomes-later, row_means, push_before, push_last, word_behind, starts, key_done}
+use Rattle.pool_seat.proofs.Ordering.{tree_later, tree_added, parts_added, tree_there, parts_listed, parts_noted, chain_adds, WordsAdd, no_words, more_words, all_words}
 use Rattle.pool_seat.proofs.mover.Mover.+walk.Goals as goal
 
 same_rest : (o : Option (List ℕ)) (a b : ℕ) (us ws : List ℕ) → o ≡ Some (31 ∷ a ∷ us) → o ≡ Some (31 ∷ b ∷ ws) → a ≡ b
@@ -71,7 +75,7 @@ visit-chunk-requires t c =
     let reached : Reached (known c.last_of.new.self.from) c.last_of.new.self.live.now c.args.of_parts c.in_ok-last.last = subst (λ x. Reached x c.last_of.new.self.live.now c.args.of_parts c.in_ok-last.last) (sym e) (subst (λ y. Reached k y.now c.args.of_parts c.in_ok-last.last) (sym c.last_of.ensures.later.live)
     (chain_reached k c.args.self.now.live.now c.args.of_parts c.args.i c.last_of.new.chunks.items c.in_ok-last.last c.in_ok-last.ensures.chain c.requires.reached)) in
     let below : 4 * work k c.args.of_parts c.in_ok-last.last + 2 < t = subst (λ n. 4 * work k c.args.of_parts c.in_ok-last.last + 2 < n) c.decreases (omega arith) in
-    (subst (λ x. 4 * work x c.args.of_parts c.in_ok-last.last + 2 < t) (sym e) below, (c.last_of.ensures.mover, (subst (λ x. Needs x c.args.of_parts c.in_ok-last.last) (sym e) g.0, (reached, λ x ns w. absurd (c.in_ok-last.ensures.last x ns (subst (λ y. words_at y (index_of c.in_ok-last.last) ≡ Some (31 ∷ x ∷ ns)) e w))))))
+    (subst (λ x. 4 * work x c.args.of_parts c.in_ok-last.last + 2 < t) (sym e) below, (c.last_of.ensures.mover, (subst (λ x. Needs x c.args.of_parts c.in_ok-last.last) (sym e) g.0, (reached, (λ x ns w. absurd (c.in_ok-last.ensures.last x ns (subst (λ y. words_at y (index_of c.in_ok-last.last) ≡ Some (31 ∷ x ∷ ns)) e w)), λ x ns w. absurd (c.in_ok-last.ensures.last x ns (subst (λ y. words_at y (index_of c.in_ok-last.last) ≡ Some (31 ∷ x ∷ ns)) e w)))))))
 
 pub visit-returns-in_err-new-clause-later : goal.visit-returns-in_err-new-clause-later
 visit-returns-in_err-new-clause-later t c = Later-trans c.args.self.now c.last_of.new.self c.chunk.new.self c.last_of.ensures.later c.chunk.ensures.later
@@ -83,6 +87,8 @@ visit-loop-chunk-init t c = record {
   end = c.in_ok-last.last;
   chain = c.in_ok-last.ensures.chain;
   done = c.in_ok-new.ensures.moved;
+  adds = subst (λ (u : Pairs). AddsTree (known c.args.self.now.from) c.args.of_parts c.in_ok-last.last u c.chunk.new.self.moved.items) c.last_of.ensures.same
+      (subst (λ x. AddsTree x c.args.of_parts c.in_ok-last.last c.last_of.new.self.moved.items c.chunk.new.self.moved.items) (Later-known c.args.self.now c.last_of.new.self c.last_of.ensures.later) c.in_ok-new.ensures.adds);
 }
 
 pub visit-returns-in_err-new-2-clause-later : goal.visit-returns-in_err-new-2-clause-later
@@ -101,7 +107,10 @@ visit-chunk-requires-in-Some t c =
     let below : 4 * work k c.args.of_parts c.in-Some.chunk + 2 < t = subst (λ n. 4 * work k c.args.of_parts c.in-Some.chunk + 2 < n) c.decreases (omega arith) in
     let rest : (x : ℕ) (ns : List ℕ) → words_at (known c.loop-chunk.self.from) (index_of c.in-Some.chunk) ≡ Some (31 ∷ x ∷ ns) → Becomes (known c.loop-chunk.self.from) (known c.loop-chunk.self.to) c.loop-chunk.self.moved.items c.args.of_parts x c.loop-chunk.new =
     λ x ns w. subst (λ n. Becomes (known c.loop-chunk.self.from) (known c.loop-chunk.self.to) c.loop-chunk.self.moved.items c.args.of_parts n c.loop-chunk.new) (same_rest (words_at k (index_of c.in-Some.chunk)) v.end x p.1 ns p.2 (subst (λ y. words_at y (index_of c.in-Some.chunk) ≡ Some (31 ∷ x ∷ ns)) e w)) v.done in
-    (subst (λ x. 4 * work x c.args.of_parts c.in-Some.chunk + 2 < t) (sym e) below, (v.mover, (subst (λ x. Needs x c.args.of_parts c.in-Some.chunk) (sym e) g.0, (reached, rest))))
+    let tree : (x : ℕ) (ns : List ℕ) → words_at (known c.loop-chunk.self.from) (index_of c.in-Some.chunk) ≡ Some (31 ∷ x ∷ ns) → HasTree (known c.loop-chunk.self.from) c.loop-chunk.self.moved.items c.args.of_parts x =
+    λ x ns w. subst (λ n. HasTree (known c.loop-chunk.self.from) c.loop-chunk.self.moved.items c.args.of_parts n) (same_rest (words_at k (index_of c.in-Some.chunk)) v.end x p.1 ns p.2 (subst (λ y. words_at y (index_of c.in-Some.chunk) ≡ Some (31 ∷ x ∷ ns)) e w))
+    (subst (λ y. HasTree y c.loop-chunk.self.moved.items c.args.of_parts v.end) (sym e) (tree_added k c.args.of_parts v.end c.args.self.now.moved.items c.loop-chunk.self.moved.items v.adds)) in
+    (subst (λ x. 4 * work x c.args.of_parts c.in-Some.chunk + 2 < t) (sym e) below, (v.mover, (subst (λ x. Needs x c.args.of_parts c.in-Some.chunk) (sym e) g.0, (reached, (rest, tree)))))
 
 pub visit-loop-chunk-preserved : goal.visit-loop-chunk-preserved
 visit-loop-chunk-preserved t c =
@@ -113,6 +122,8 @@ visit-loop-chunk-preserved t c =
       end = c.in-Some.chunk;
       chain = p.0;
       done = c.in_ok-new-2.ensures.moved;
+      adds = chain_adds (known c.args.self.now.from) c.args.of_parts c.in-Some.chunk v.end p.1 c.args.self.now.moved.items c.loop-chunk.self.moved.items c.chunk-in-Some.new.self.moved.items p.2 v.adds
+          (subst (λ x. AddsTree x c.args.of_parts c.in-Some.chunk c.loop-chunk.self.moved.items c.chunk-in-Some.new.self.moved.items) (Later-known c.args.self.now c.loop-chunk.self v.later) c.in_ok-new-2.ensures.adds);
     }
 
 pub word-find-requires : goal.word-find-requires
@@ -121,6 +132,27 @@ word-find-requires t c =
     let s = some_of (denoted (known c.args.self.now.from) (index_of c.args.word)) n in
     record { mover = c.requires.mover; inside = c.requires.mover.inside (index_of c.args.word) (denoted_words (known c.args.self.now.from) (index_of c.args.word) s.0 s.1) }
 
+-- the rest of a list stands first behind its kind
+rest_tree : (m n : Mover) (b : Bool) (i : ℕ) (words : List ℕ) (p : ℕ) → Later m n → Needs (known m.from) b i → words_at (known m.from) (index_of i) ≡ Some words → p < length (drop 1 words) → ((x : ℕ) (us : List ℕ) → words_at (known m.from) (index_of i) ≡ Some (31 ∷ x ∷ us) → HasTree (known m.from) m.moved.items b x) → role_at (slice_index words 0) b p ≡ role.Rest → HasTree (known m.from) n.moved.items b (slice_index (drop 1 words) p)
+rest_tree m n b i words p later needs w l tree r =
+    let q = rest_role (slice_index words 0) b p r in
+    let ws : List ℕ = drop 1 words in
+    let a : words ≡ slice_index words 0 ∷ ws = row_starts (known m.from) i words (needs_some (known m.from) b i needs) w in
+    let z : p ≡ 0 = q.1 in
+    let c : ws ≡ slice_index ws 0 ∷ drop 1 ws = starts ws (omega (arith, l, z)) in
+    let d : words ≡ 31 ∷ slice_index ws 0 ∷ drop 1 ws = a ∙ ap₂ (λ (x : ℕ) (xs : List ℕ). x ∷ xs) q.0 c in
+    subst (λ x. HasTree (known m.from) n.moved.items b (slice_index ws x)) (sym z) (tree_later (known m.from) m.moved.items n.moved.items b (slice_index ws 0) later.moved (tree (slice_index ws 0) (drop 1 ws) (w ∙ ap Some d)))
+
+pub row-loop-at-init : goal.row-loop-at-init
+row-loop-at-init t c = record {
+  mover = c.read.ensures.mover;
+  later = c.read.ensures.later;
+  as_long = search rules;
+  first = search rules;
+  built = λ q lo hi. absurd (omega (arith, lo, hi));
+  adds = subst (λ (u : Pairs). WordsAdd (known c.args.self.now.from) c.args.of_parts (slice_index c.as_slice-words.result.now 0) (drop 1 c.as_slice-words.result.now) 0 c.args.self.now.moved.items u) (sym c.read.ensures.same) (no_words (known c.args.self.now.from) c.args.of_parts (slice_index c.as_slice-words.result.now 0) (drop 1 c.as_slice-words.result.now) c.args.self.now.moved.items);
+}
+
 pub row-loop-at-preserved : goal.row-loop-at-preserved
 row-loop-at-preserved t c =
     let m = c.args.self.now in
@@ -128,6 +160,18 @@ row-loop-at-preserved t c =
     let n = c.word.new.self in
     let at : ℕ = c.loop-at.at in
     let ws : List ℕ = c.as_slice-words.result.now in
+    let k = known m.from in
+    let kind : ℕ = slice_index ws 0 in
+    let lo = c.loop-at.auto.at in
+    let w : words_at k (index_of c.args.i) ≡ Some ws = c.read.ensures.words ∙ ap Some (sym c.as_slice-words.ensures.value) in
+    let some : length ws ≡ suc (length (drop 1 ws)) = ap length (row_starts k c.args.i ws (needs_some k c.args.of_parts c.args.i c.requires.needs) w) in
+    let inside : at - 1 < length (drop 1 ws) = let l = c.loop-at-test.true in omega (arith, some) in
+    let behind = word_behind ws at (omega arith) in
+    let word : WordAdds k (role_at kind c.args.of_parts (at - 1)) (slice_index (drop 1 ws) (at - 1)) c.loop-at.self.moved.items n.moved.items =
+    subst (λ x. WordAdds k (role_at kind c.args.of_parts (at - 1)) x c.loop-at.self.moved.items n.moved.items) (sym behind) (subst (λ r. WordAdds k r (slice_index ws at) c.loop-at.self.moved.items n.moved.items) c.role_of.ensures
+    (subst (λ x. WordAdds x c.role_of.result (slice_index ws at) c.loop-at.self.moved.items n.moved.items) (Later-known m c.loop-at.self v.later) c.in_ok-new.ensures.adds)) in
+    let more = more_words k c.args.of_parts kind (drop 1 ws) (at - 1) m.moved.items c.loop-at.self.moved.items n.moved.items v.adds (rest_tree m c.loop-at.self c.args.of_parts c.args.i ws (at - 1) v.later c.requires.needs w inside c.requires.tree) word in
+    let next : suc (at - 1) ≡ at + 1 - 1 = omega arith in
     let into : List ℕ = c.push-in-loop-at.new.self in
     let old : List ℕ = c.loop-at.into in
     let a = c.loop-at.auto.at in
@@ -146,6 +190,7 @@ row-loop-at-preserved t c =
           subst (λ x. WordBecomes n (role_at (slice_index ws 0) c.args.of_parts (x - 1)) c.args.rest (slice_index ws x) (slice_index (old ++ c.in_ok-new.new ∷ []) x)) e
           (subst (WordBecomes n (role_at (slice_index ws 0) c.args.of_parts (at - 1)) c.args.rest (slice_index ws at)) (sym (push_last old c.in_ok-new.new at long)) here))
           (cases_lt q at));
+      adds = subst (λ x. WordsAdd k c.args.of_parts kind (drop 1 ws) x m.moved.items n.moved.items) next more;
     }
 
 if_ok : {X E : Type 0} (r : Result X E) (P Q : X → Type 0) → ((x : X) → P x → Q x) → IfOk r P → IfOk r Q
@@ -197,3 +242,56 @@ row-returns-clause-moved t c =
     if_ok c.intern.result (λ j. words_at (known o.to) (index_of j) ≡ Some c.as_slice.result.now) (HasRow o c.args.of_parts c.args.i)
     (λ j h. record { key = c.as_slice.result.now; there = h; new = key; means = row_means o c.args.of_parts c.args.i j c.as_slice.result.now c.intern.ensures.mover needs key h })
     c.intern.ensures.place
+
+on_ok : {X E : Type 0} (r : Result X E) (P Q : Type 0) → (P → Q) → OnOk r P → OnOk r Q
+on_ok (Ok x) P Q f h = f h
+on_ok (Err e) P Q f h = h
+
+always_ok : {X E : Type 0} (r : Result X E) (P : Type 0) → P → OnOk r P
+always_ok (Ok x) P h = h
+always_ok (Err e) P h = tt
+
+pub row-returns-clause-adds : goal.row-returns-clause-adds
+row-returns-clause-adds t c =
+    let m = c.args.self.now in
+    let v = c.loop-at.invariant in
+    let k = known m.from in
+    let ws : List ℕ = c.as_slice-words.result.now in
+    let kind : ℕ = slice_index ws 0 in
+    let a = c.loop-at.auto.at in
+    let w : words_at k (index_of c.args.i) ≡ Some ws = c.read.ensures.words ∙ ap Some (sym c.as_slice-words.ensures.value) in
+    let starts = row_starts k c.args.i ws (needs_some k c.args.of_parts c.args.i c.requires.needs) w in
+    let some : length ws ≡ suc (length (drop 1 ws)) = ap length starts in
+    let end = c.loop-at.auto.at-end (omega (arith, some)) in
+    let f = c.loop-at-test.false in
+    let all : c.loop-at.at - 1 ≡ length (drop 1 ws) = omega (arith, some) in
+    let done = subst (λ n. WordsAdd k c.args.of_parts kind (drop 1 ws) n m.moved.items c.loop-at.self.moved.items) all v.adds in
+    always_ok c.intern.result (AddsParts k c.args.of_parts c.args.i m.moved.items c.intern.new.self.moved.items)
+    (subst (λ (u : Pairs). AddsParts k c.args.of_parts c.args.i m.moved.items u) (sym c.intern.ensures.same) (all_words k c.args.of_parts c.args.i kind (drop 1 ws) m.moved.items c.loop-at.self.moved.items (w ∙ ap Some starts) done))
+
+pub chunk-note-requires-clause-parts : goal.chunk-note-requires-clause-parts
+chunk-note-requires-clause-parts t c =
+    let m = c.args.self.now in
+    let n = c.row.new.self in
+    let s = parts_added (known m.from) c.args.of_parts c.args.i m.moved.items n.moved.items c.in_ok-new.ensures.adds in
+    subst (λ x. HasParts x n.moved.items false c.args.i) (sym (Later-known m n c.row.ensures.later)) (subst (λ b. HasParts (known m.from) n.moved.items b c.args.i) c.if-of_parts.false s)
+
+pub chunk-returns-then-of_parts-clause-adds : goal.chunk-returns-then-of_parts-clause-adds
+chunk-returns-then-of_parts-clause-adds t c =
+    let m = c.args.self.now in
+    let n = c.row.new.self in
+    subst (λ b. AddsTree (known m.from) b c.args.i m.moved.items n.moved.items) (sym c.if-of_parts.true) (parts_listed (known m.from) c.args.i m.moved.items n.moved.items (subst (λ b. AddsParts (known m.from) b c.args.i m.moved.items n.moved.items) c.if-of_parts.true c.in_ok-new.ensures.adds))
+
+pub chunk-returns-else-of_parts-clause-adds : goal.chunk-returns-else-of_parts-clause-adds
+chunk-returns-else-of_parts-clause-adds t c =
+    let m = c.args.self.now in
+    let n = c.row.new.self in
+    let o = c.note.new.self in
+    on_ok c.note.result (olds o.moved.items ≡ added (olds n.moved.items) c.args.i) (AddsTree (known m.from) c.args.of_parts c.args.i m.moved.items o.moved.items)
+    (λ h. subst (λ b. AddsTree (known m.from) b c.args.i m.moved.items o.moved.items) (sym c.if-of_parts.false) (parts_noted (known m.from) c.args.i m.moved.items n.moved.items o.moved.items (subst (λ b. AddsParts (known m.from) b c.args.i m.moved.items n.moved.items) c.if-of_parts.false c.in_ok-new.ensures.adds) h))
+    c.note.ensures.adds
+
+pub word-returns-in-Some-clause-adds : goal.word-returns-in-Some-clause-adds
+word-returns-in-Some-clause-adds t c =
+    let m = c.args.self.now in
+    subst (λ r. WordAdds (known m.from) r c.args.word m.moved.items m.moved.items) (sym c.in-Part.is) (tree_there (known m.from) false c.args.word m.moved.items (c.requires.mover.trees c.args.word c.in-Some.new c.in-Some.ensures.some))

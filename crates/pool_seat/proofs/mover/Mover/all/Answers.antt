@@ -1,5 +1,6 @@
-use Rattle.std.proofs.Common.{◌≡◌, ⊎_elim, false, get_or, IsSome, refl, sym, subst, arith}
+use Rattle.std.proofs.Common.{◌≡◌, ⊎_elim, false, List, get_or, take, IsSome, refl, sym, subst, arith}
 use Rattle.std.proofs.lemmas.Bool.{cases_lt}
+use Rattle.std.proofs.lemmas.List.{take_all, take_more}
 use Rattle.type_form.specs.declared.index.Index.{Index}
 use Rattle.type_form.specs.Words.{index_of}
 use Rattle.type_form.specs.Denote.{denoted}
@@ -7,49 +8,60 @@ use Rattle.pool_words.specs.Rule.{In}
 use Rattle.pool_shard.specs.Pairs.{known}
 use Rattle.pool_seat.specs.Reach.{Reached, Live}
 use Rattle.pool_seat.specs.Moves.{IsMoved}
+use Rattle.pool_seat.specs.Movers.{AddsTree, AddsAll}
 use Rattle.pool_seat.proofs.Moving.{Later-trans, Later-known}
 use Rattle.pool_seat.proofs.Closing.{In-get, get-In}
+use Rattle.pool_seat.proofs.Ordering.{more_live}
 use Rattle.pool_seat.proofs.mover.Mover.all.Goals as goal
 
 pub visit-requires-clause-needs : goal.visit-requires-clause-needs
 visit-requires-clause-needs c =
     let live = c.args.self.now.live.now in
-    let x = get_or live c.loop-i.i-index (index_of 0) in
-    subst (λ k. IsSome (denoted k (index_of x.0))) (sym (Later-known c.args.self.now c.loop-i.self c.loop-i.invariant.later)) (c.requires.needs x (In-get live c.loop-i.i-index (index_of 0) c.loop-i-test.true))
+    let x = get_or live c.loop-at.at (index_of 0) in
+    subst (λ k. IsSome (denoted k (index_of x.0))) (sym (Later-known c.args.self.now c.loop-at.self c.loop-at.invariant.later)) (c.requires.needs x (In-get live c.loop-at.at (index_of 0) c.loop-at-test.true))
 
 pub visit-requires-clause-reached : goal.visit-requires-clause-reached
 visit-requires-clause-reached c =
     let m = c.args.self.now in
     let live = m.live.now in
-    let x = get_or live c.loop-i.i-index (index_of 0) in
-    let n = c.loop-i.self in
-    let v = c.loop-i.invariant.later in
-    subst (λ k. Reached k n.live.now false x.0) (sym (Later-known m n v)) (subst (λ y. Reached (known m.from) y.now false x.0) (sym v.live) (Live x (In-get live c.loop-i.i-index (index_of 0) c.loop-i-test.true)))
+    let x = get_or live c.loop-at.at (index_of 0) in
+    let n = c.loop-at.self in
+    let v = c.loop-at.invariant.later in
+    subst (λ k. Reached k n.live.now false x.0) (sym (Later-known m n v)) (subst (λ y. Reached (known m.from) y.now false x.0) (sym v.live) (Live x (In-get live c.loop-at.at (index_of 0) c.loop-at-test.true)))
 
 pub returns-in_err-visit-clause-later : goal.returns-in_err-visit-clause-later
-returns-in_err-visit-clause-later c = Later-trans c.args.self.now c.loop-i.self c.visit.new.self c.loop-i.invariant.later c.visit.ensures.later
+returns-in_err-visit-clause-later c = Later-trans c.args.self.now c.loop-at.self c.visit.new.self c.loop-at.invariant.later c.visit.ensures.later
 
-pub loop-i-preserved : goal.loop-i-preserved
-loop-i-preserved c =
-    let v = c.loop-i.invariant in
+pub loop-at-preserved : goal.loop-at-preserved
+loop-at-preserved c =
+    let v = c.loop-at.invariant in
     let live = c.args.self.now.live.now in
     let t = c.visit.new.self.moved.items in
     record {
       mover = c.visit.ensures.mover;
-      later = Later-trans c.args.self.now c.loop-i.self c.visit.new.self v.later c.visit.ensures.later;
+      later = Later-trans c.args.self.now c.loop-at.self c.visit.new.self v.later c.visit.ensures.later;
       same = refl;
       done = λ p l. ⊎_elim
           (λ a. let d = v.done p a in (d.0, c.visit.ensures.later.moved (get_or live p (index_of 0)).0 d.0 d.1))
-          (λ g. let e : c.loop-i.i-index ≡ p = omega (arith, g, l) in (c.in_ok-visit.field-0, subst (λ q. IsMoved t (get_or live q (index_of 0)).0 c.in_ok-visit.field-0) e c.in_ok-visit.ensures.moved))
-          (cases_lt p c.loop-i.i-index);
+          (λ g. let e : c.loop-at.at ≡ p = omega (arith, g, l) in (c.in_ok-visit.field-0, subst (λ q. IsMoved t (get_or live q (index_of 0)).0 c.in_ok-visit.field-0) e c.in_ok-visit.ensures.moved))
+          (cases_lt p c.loop-at.at);
+      adds = subst (λ (xs : List Index). AddsAll (known c.args.self.now.from) xs c.args.self.now.moved.items t) (sym (take_more live c.loop-at.at (index_of 0) c.loop-at-test.true))
+          (more_live (known c.args.self.now.from) (take c.loop-at.at live) (get_or live c.loop-at.at (index_of 0)) c.args.self.now.moved.items c.loop-at.self.moved.items t v.adds
+          (subst (λ k. AddsTree k false (get_or live c.loop-at.at (index_of 0)).0 c.loop-at.self.moved.items t) (Later-known c.args.self.now c.loop-at.self v.later) c.in_ok-visit.ensures.adds));
     }
 
 pub returns-clause-live : goal.returns-clause-live
 returns-clause-live c i h =
-    let v = c.loop-i.invariant in
+    let v = c.loop-at.invariant in
     let live = c.args.self.now.live.now in
     let g = get-In live (index_of 0) i (subst (λ y. In i y.now) v.later.live h) in
-    let f = c.loop-i-test.false in
+    let f = c.loop-at-test.false in
     let l = g.1 in
     let d = v.done g.0 (omega arith) in
-    (d.0, subst (λ (x : Index). IsMoved c.loop-i.self.moved.items x.0 d.0) g.2 d.1)
+    (d.0, subst (λ (x : Index). IsMoved c.loop-at.self.moved.items x.0 d.0) g.2 d.1)
+
+pub returns-clause-adds : goal.returns-clause-adds
+returns-clause-adds c =
+    let live = c.args.self.now.live.now in
+    let f = c.loop-at-test.false in
+    subst (λ (xs : List Index). AddsAll (known c.args.self.now.from) xs c.args.self.now.moved.items c.loop-at.self.moved.items) (take_all c.loop-at.at live (omega arith)) c.loop-at.invariant.adds

@@ -17,6 +17,7 @@ returns-in-Ok-clause-mover c =
       inside = h.inside;
       listed = h.listed;
       entered = h.entered;
+      trees = h.trees;
     }
 
 pub returns-in-Err-clause-mover : goal.returns-in-Err-clause-mover
@@ -28,4 +29,5 @@ returns-in-Err-clause-mover c =
       inside = h.inside;
       listed = h.listed;
       entered = h.entered;
+      trees = h.trees;
     }

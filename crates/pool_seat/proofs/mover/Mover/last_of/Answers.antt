@@ -58,6 +58,13 @@ loop-words-preserved c =
     record {
       mover = c.read.ensures.mover;
       later = Later-trans c.args.self.now c.loop-words.self c.read.new.self v.later c.read.ensures.later;
+      same = c.read.ensures.same ∙ v.same;
       there = subst (λ (ws : List ℕ). IsSome (denoted k (index_of (slice_index ws 1)))) (sym m.2) l.0;
       chain = subst (λ (ws : List ℕ). IsChain k c.args.i c.push.new.self.items (slice_index ws 1)) (sym m.2) (subst (λ (cs : List ℕ). IsChain k c.args.i cs m.0) (sym c.in-Ok.ensures.items) (chain_push k c.args.i c.loop-words.chunks.items c.loop-words.at m.0 m.1 v.chain m.3));
     }
+
+pub returns-then-words-ne31-clause-same : goal.returns-then-words-ne31-clause-same
+returns-then-words-ne31-clause-same c = c.read.ensures.same ∙ c.loop-words.invariant.same
+
+pub returns-in_default-clause-same : goal.returns-in_default-clause-same
+returns-in_default-clause-same c = c.read.ensures.same ∙ c.loop-words.invariant.same

@@ -1,4 +1,4 @@
-use Rattle.std.proofs.Common.{IsSome}
+use Rattle.std.proofs.Common.{◌≡◌, IsSome}
 use Rattle.type_form.specs.Words.{index_of}
 use Rattle.type_form.specs.Denote.{denoted}
 use Rattle.pool_shard.specs.Pairs.{known}
@@ -9,6 +9,7 @@ abbrev pub invariant-loop-words : goal.invariant-loop-words
 invariant-loop-words l = record {
   mover : IsMover l.self;
   later : Later l.fn.self l.self;
+  same : l.self.moved.items ≡ l.fn.self.moved.items;
   there : IsSome (denoted (known l.fn.self.from) (index_of l.at));
   chain : IsChain (known l.fn.self.from) l.i l.chunks.items l.at;
 }

@@ -1,11 +1,14 @@
-use Rattle.std.proofs.Common.{◌+◌, refl, sym, subst, arith}
+use Rattle.std.proofs.Common.{◌≡◌, ℕ, suc, ◌+◌, false, slice_index, refl, sym, ap, ◌∙◌, subst, arith}
 use Rattle.std.proofs.lemmas.List.{length-set}
 use Rattle.std.specs.Vec.{with_item}
 use Rattle.type_form.specs.Words.{index_of}
 use Rattle.pool_words.proofs.Members.{In-last}
 use Rattle.pool_shard.specs.Pairs.{known}
-use Rattle.pool_seat.specs.Moves.{IsMoved, HasMoved}
+use Rattle.pool_seat.specs.Moves.{Pairs, IsMoved, HasMoved}
+use Rattle.pool_seat.specs.Order.{olds}
+use Rattle.pool_seat.specs.Movers.{HasTree}
 use Rattle.pool_seat.proofs.Moving.{denoted_words, Keeps-refl, SameRows-refl, goes_push, HasMoved-notes, IsMover-note}
+use Rattle.pool_seat.proofs.Ordering.{added_there, added_new, moved_old, old_moved, olds_push, trees_note}
 use Rattle.pool_seat.proofs.mover.Mover.note.Goals as goal
 
 pub find-requires : goal.find-requires
@@ -34,6 +37,7 @@ returns-in_default-push-clause-mover c =
       inside = h.inside;
       listed = λ i j t. subst (λ l. IsMoved l i j) (sym c.in_default-push.ensures.items) (h.listed i j t);
       entered = λ i j t. h.entered i j (subst (λ l. IsMoved l i.0 j.0) c.in_default-push.ensures.items t);
+      trees = subst (λ (u : Pairs). (i j : ℕ) → IsMoved u i j → HasTree (known m.from) u false i) (sym c.in_default-push.ensures.items) h.trees;
     }
 
 pub returns-clause-mover : goal.returns-clause-mover
@@ -43,7 +47,7 @@ returns-clause-mover c =
     let s = r.means in
     let h = c.requires.mover.inside (index_of c.args.i) (denoted_words (known m.from) (index_of c.args.i) s.node s.before) in
     IsMover-note m (record { alloc = m.alloc; live = m.live; from = m.from; to = m.to; table = with_item m.table c.args.i (c.args.j + 1); moved = c.push.new.self }) c.args.i c.args.j c.requires.mover
-    (HasMoved-notes (known m.from) m.live.now m.to m.moved.items c.args.i c.args.j c.requires.mover.has c.requires.reached s r.key r.there r.new) c.in_default.ensures.none h refl refl refl refl c.in-Ok.ensures.items
+    (HasMoved-notes (known m.from) m.live.now m.to m.moved.items c.args.i c.args.j c.requires.mover.has c.requires.reached s r.key r.there r.new) c.in_default.ensures.none h (trees_note (known m.from) m.moved.items c.args.i c.args.j c.requires.mover.trees c.requires.parts) refl refl refl refl c.in-Ok.ensures.items
 
 pub returns-clause-later : goal.returns-clause-later
 returns-clause-later c =
@@ -56,3 +60,16 @@ returns-clause-later c =
       long = length-set m.table.items c.args.i (c.args.j + 1);
       moved = λ a b t. subst (λ l. IsMoved l a b) (sym c.in-Ok.ensures.items) (goes_push m.moved.items c.args.i c.args.j a b t);
     }
+
+not_entered : (x j : ℕ) → x ≡ 0 → x ≡ suc j → ⊥
+not_entered x j e f = absurd (omega (arith, e, f))
+
+pub returns-clause-adds : goal.returns-clause-adds
+returns-clause-adds c =
+    let m = c.args.self.now in
+    ap olds c.in-Ok.ensures.items
+    ∙ (olds_push m.moved.items c.args.i c.args.j
+    ∙ sym (added_new (olds m.moved.items) c.args.i (λ h. let g = old_moved m.moved.items c.args.i h in not_entered (slice_index m.table.items c.args.i) g.0 c.in_default.ensures.none (c.requires.mover.entered (index_of c.args.i) (index_of g.0) g.1))))
+
+pub returns-in-Some-clause-adds : goal.returns-in-Some-clause-adds
+returns-in-Some-clause-adds c = sym (added_there (olds c.args.self.now.moved.items) c.args.i (moved_old c.args.self.now.moved.items c.args.i c.in-Some.known c.in-Some.ensures.some))
