@@ -1,24 +1,29 @@
--- Which threads are kept of those that go on in the same way.
-use Rattle.std.proofs.Common.{◌≡◌, Bool, true, false, ◌||◌, List, [], ◌∷◌, ◌++◌, map, reverse, Option, Some, None, refl, sym, ◌∙◌, ap, subst, append_assoc, append-nil}
+-- Which threads are kept of those that read what others do.
+use Rattle.std.proofs.Common.{◌≡◌, Bool, true, false, ◌||◌, inl, inr, List, [], ◌∷◌, ◌++◌, map, reverse, Option, Some, None, refl, sym, ◌∙◌, ap, subst, append_assoc, append-nil}
 use Rattle.std.specs.Prelude.{if◌then◌else◌}
-use Rattle.std.proofs.lemmas.Bool.{and_parts}
+use Rattle.std.proofs.lemmas.Bool.{and_parts, or_cases}
 use Rattle.std.proofs.lemmas.List.{reverse-append}
 use Rattle.zig_tree.specs.declared.token.TokenKind.{TokenKind}
+use Rattle.zig_tree.specs.declared.token.TokenKind.TheVariants as kind
+use Rattle.zig_tree.specs.declared.grammar.Group.TheVariants as group
+use Rattle.zig_tree.specs.declared.grammar.When.TheVariants as when
 use Rattle.zig_tree.specs.declared.grammar.Part.{Part}
-use Rattle.zig_tree.specs.Kinds.{is_part}
-use Rattle.zig_tree.specs.GrammarSentences.{Pieces, Derives}
+use Rattle.zig_tree.specs.declared.grammar.Part.TheVariants as part
+use Rattle.zig_tree.specs.Grammar.{group_rows, row}
+use Rattle.zig_tree.specs.Kinds.{is_part, number_of}
+use Rattle.zig_tree.specs.GrammarSentences.{Pieces, nothing, word, followed, Derives, derives_none, derives_token, derives_group}
 use Rattle.zig_parse.specs.declared.thread.Item.{Item}
 use Rattle.zig_parse.specs.declared.thread.Thread.{Thread}
 use Rattle.zig_parse.specs.declared.survey.Finished.{Finished}
 use Rattle.zig_parse.specs.Threads.{after_read, received, with_choices}
-use Rattle.zig_parse.specs.Moves.{same_future, same_parts, waits_for}
+use Rattle.zig_parse.specs.Moves.{covers, covers_items, goes_as_far, reads_more, same_parts, waits_for}
 use Rattle.zig_parse.specs.Passes.{after_token, is_among, kept_with, result_for, resumed, resumed_at, resumed_by}
 use Rattle.zig_parse.proofs.Paths.{parts_of_items}
 use Rattle.zig_parse.proofs.SameParts.{same_part}
 use Rattle.zig_parse.proofs.Moving.{coming, Each, each_joined}
 use Rattle.zig_parse.proofs.Settling.{Dead}
 
--- ---- threads with the same to come
+-- ---- the same to come
 
 same_items : (a b : List Item) → same_parts a b ≡ true → parts_of_items a ≡ parts_of_items b
 unfolding same_parts
@@ -56,11 +61,43 @@ reversed_same (i ∷ a) (j ∷ b) e =
     let s = last_same (parts_of_items (reverse a)) (parts_of_items (reverse b)) i.part j.part (sym (reverse_parts i a) ∙ e ∙ reverse_parts j b) in
     ap (λ (p : Part). p ∷ parts_of_items a) s.1 ∙ ap (λ (l : List Part). j.part ∷ l) (reversed_same a b s.0)
 
-pub future_same : (a b : Thread) → same_future a b ≡ true → (a.goal ≡ b.goal) × (coming a ≡ coming b)
-unfolding same_future
-future_same a b h =
-    let s = and_parts (is_part a.goal b.goal) (same_parts (reverse a.items) (reverse b.items)) h in
-    (same_part a.goal b.goal s.0, reversed_same a.items b.items (same_items (reverse a.items) (reverse b.items) s.1))
+-- ---- threads that read whatever others do
+
+-- what stands behind a dot may be a name
+some_name : (ps : List Part) (tokens end : List TokenKind) (p : Pieces) → Derives (part.Token kind.Identifier ∷ ps) tokens end p → (q : Pieces) × Derives (part.Group group.DotAtom ∷ ps) tokens end q
+unfolding group_rows number_of
+some_name ps tokens end p (derives_token _ _ more _ later d) = (
+  followed (word kind.Identifier nothing) later,
+  derives_group group.DotAtom (row (when.Is kind.Identifier) (part.Token kind.Identifier ∷ [])) ps (kind.Identifier ∷ more) more end (word kind.Identifier nothing) later
+      (inl refl) (derives_token kind.Identifier [] more more nothing (derives_none more)) d,
+)
+
+covered : (a b : Part) (ps : List Part) (tokens end : List TokenKind) (p : Pieces) → covers a b ≡ true → Derives (b ∷ ps) tokens end p → (q : Pieces) × Derives (a ∷ ps) tokens end q
+covered a b ps tokens end p h d =
+    elim (or_cases (is_part a b) (reads_more a b) h) [
+      | inl e ↦ (p, subst (λ (x : Part). Derives (x ∷ ps) tokens end p) (sym (same_part a b e)) d)
+      | inr e ↦
+          let s = and_parts (is_part a (part.Group group.DotAtom)) (is_part b (part.Token kind.Identifier)) e in
+          let name = some_name ps tokens end p (subst (λ (x : Part). Derives (x ∷ ps) tokens end p) (same_part b (part.Token kind.Identifier) s.1) d) in
+          (name.0, subst (λ (x : Part). Derives (x ∷ ps) tokens end name.0) (sym (same_part a (part.Group group.DotAtom) s.0)) name.1)
+    ]
+
+items_covered : (a b : List Item) (tokens end : List TokenKind) (p : Pieces) → covers_items a b ≡ true → Derives (parts_of_items b) tokens end p → (q : Pieces) × Derives (parts_of_items a) tokens end q
+unfolding covers_items
+items_covered [] [] tokens end p h d = (p, d)
+items_covered [] (j ∷ js) tokens end p h d = absurd (cc)
+items_covered (i ∷ is) [] tokens end p h d = absurd (cc)
+items_covered (i ∷ is) (j ∷ js) tokens end p h d =
+    let s = and_parts (covers i.part j.part) (same_parts (reverse is) (reverse js)) h in
+    let below = reversed_same is js (same_items (reverse is) (reverse js) s.1) in
+    covered i.part j.part (parts_of_items is) tokens end p s.0 (subst (λ (l : List Part). Derives (j.part ∷ l) tokens end p) (sym below) d)
+
+-- a thread that goes as far as another derives what the other does
+pub as_far : (a b : Thread) (tokens end : List TokenKind) (p : Pieces) → goes_as_far a b ≡ true → Derives (coming b) tokens end p → (a.goal ≡ b.goal) × ((q : Pieces) × Derives (coming a) tokens end q)
+unfolding goes_as_far
+as_far a b tokens end p h d =
+    let s = and_parts (is_part a.goal b.goal) (covers_items a.items b.items) h in
+    (same_part a.goal b.goal s.0, items_covered a.items b.items tokens end p s.1 d)
 
 -- ---- threads are kept one after the other
 
@@ -96,15 +133,15 @@ keep_front kept (t ∷ ts) =
     (one.0 ++ all.0, all.1 ∙ ap (λ (l : List Thread). l ++ all.0) one.1 ∙ append_assoc kept one.0 all.0)
 
 among_by : (goal : Part) (tokens end : List TokenKind) (t : Thread) (ts : List Thread) (x : Thread) (p : Pieces) → x.goal ≡ goal → Derives (coming x) tokens end p → Dead goal tokens end t → is_among ts x ≡ false
-    → (b : Bool) → same_future t x ≡ b → (same_future t x || is_among ts x) ≡ false
+    → (b : Bool) → goes_as_far t x ≡ b → (goes_as_far t x || is_among ts x) ≡ false
 among_by goal tokens end t ts x p g d dead none false e = ap (λ (y : Bool). y || is_among ts x) e ∙ none
-among_by goal tokens end t ts x p g d dead none true e = let s = future_same t x e in absurd (dead (s.0 ∙ g) p (subst (λ (l : List Part). Derives l tokens end p) (sym s.1) d))
+among_by goal tokens end t ts x p g d dead none true e = let s = as_far t x tokens end p e d in absurd (dead (s.0 ∙ g) s.1.0 s.1.1)
 
--- a thread whose parts derive the tokens goes on in another way than those that lead nowhere
+-- where those that are kept lead nowhere, none of them reads what a thread does whose parts derive the tokens
 among_no : (goal : Part) (tokens end : List TokenKind) (kept : List Thread) (x : Thread) (p : Pieces) → x.goal ≡ goal → Derives (coming x) tokens end p → Each (Dead goal tokens end) kept → is_among kept x ≡ false
 unfolding is_among
 among_no goal tokens end [] x p g d h = refl
-among_no goal tokens end (t ∷ ts) x p g d h = among_by goal tokens end t ts x p g d h.0 (among_no goal tokens end ts x p g d h.1) (same_future t x) refl
+among_no goal tokens end (t ∷ ts) x p g d h = among_by goal tokens end t ts x p g d h.0 (among_no goal tokens end ts x p g d h.1) (goes_as_far t x) refl
 
 pub record Kept (goal : Part) (tokens end : List TokenKind) (x : Thread) (all : List Thread) : Type 0 where
   pub before : List Thread

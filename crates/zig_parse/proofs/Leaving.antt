@@ -1,5 +1,5 @@
 -- After a token the first pass has the thread of the path still, also where the token ends a brace.
-use Rattle.std.proofs.Common.{◌≡◌, ℕ, ◌+◌, Bool, true, false, ◌&&◌, ◌||◌, ◌⊎◌, inl, inr, List, [], ◌∷◌, ◌++◌, map, length, reverse, Option, Some, None, refl, sym, ◌∙◌, ap, subst, arith, append_assoc, append-nil}
+use Rattle.std.proofs.Common.{◌≡◌, ℕ, ◌+◌, Bool, true, false, ◌&&◌, ◌||◌, ◌⊎◌, inl, inr, List, [], ◌∷◌, ◌++◌, map, length, Option, Some, None, refl, sym, ◌∙◌, ap, subst, arith, append_assoc, append-nil}
 use Rattle.std.specs.Prelude.{if◌then◌else◌, nat_eq, not}
 use Rattle.std.proofs.lemmas.Bool.{and_from}
 use Rattle.zig_tree.specs.declared.token.TokenKind.{TokenKind}
@@ -19,9 +19,10 @@ use Rattle.zig_parse.specs.Threads.{after_read, received, risen, with_choices}
 use Rattle.zig_parse.specs.Moves.{waits_for}
 use Rattle.zig_parse.specs.declared.thread.Move.TheVariants as move
 use Rattle.zig_parse.specs.declared.survey.Verdict.TheVariants as verdict
-use Rattle.zig_parse.specs.Moves.{move_from, next_move, same_future, same_parts}
+use Rattle.zig_parse.specs.Moves.{covers_items, goes_as_far, move_from, next_move}
 use Rattle.zig_parse.specs.Passes.{after_token, all_deep, finished, is_among, verdict_of, has_read_all, is_closed, own_height, result_for, resumed}
 use Rattle.zig_parse.specs.Surveys.{left, left_waiting}
+use Rattle.zig_parse.proofs.Steps.{covers_none}
 use Rattle.zig_parse.proofs.Derived.{joined_derived}
 use Rattle.zig_parse.proofs.Tables.{same_kind}
 use Rattle.zig_parse.specs.Ways.{Fork}
@@ -261,15 +262,9 @@ stay low top total at k more live waiting ds forks t n =
 abbrev IsSpent : Thread → Type 0
 IsSpent y = (y.goal ≡ part.Rule rule.Root) × (y.items ≡ [])
 
-spent_items : (a b : List Item) → a ≡ [] → b ≡ [] → same_parts (reverse a) (reverse b) ≡ true
-unfolding same_parts
-spent_items [] [] e h = refl
-spent_items (i ∷ a) b e h = absurd (cc)
-spent_items [] (j ∷ b) e h = absurd (cc)
-
-spent_same : (a b : Thread) → IsSpent a → IsSpent b → same_future a b ≡ true
-unfolding same_future
-spent_same a b h k = and_from (is_part a.goal b.goal) (same_parts (reverse a.items) (reverse b.items)) (subst (λ (p : Part). is_part a.goal p ≡ true) (h.0 ∙ sym k.0) (part_is a.goal)) (spent_items a.items b.items h.1 k.1)
+spent_same : (a b : Thread) → IsSpent a → IsSpent b → goes_as_far a b ≡ true
+unfolding goes_as_far
+spent_same a b h k = and_from (is_part a.goal b.goal) (covers_items a.items b.items) (subst (λ (p : Part). is_part a.goal p ≡ true) (h.0 ∙ sym k.0) (part_is a.goal)) (covers_none a.items b.items h.1 k.1)
 
 kept_none : (kept : List Thread) (t : Thread) (b : Bool) → b ≡ true → (if b then kept else kept ++ t ∷ []) ≡ kept
 kept_none kept t true h = refl

@@ -5,7 +5,7 @@ use Rattle.zig_tree.specs.declared.grammar.Part.{Part}
 use Rattle.zig_tree.specs.Kinds.{is_part}
 use Rattle.zig_parse.specs.declared.thread.Thread.{Thread}
 use Rattle.zig_parse.specs.declared.survey.Finished.{Finished}
-use Rattle.zig_parse.specs.Moves.{same_future, waits_for}
+use Rattle.zig_parse.specs.Moves.{goes_as_far, waits_for}
 use Rattle.zig_parse.specs.Passes.{any_waits, least_from, least_with, depth_for, wants, is_among, result_for, all_deep}
 
 pub drop_step : {T : Type 0} (xs : List T) (i : ℕ) (d : T) → i < length xs → drop i xs ≡ get_or xs i d ∷ drop (i + 1) xs
@@ -60,11 +60,11 @@ pub least_end : (least : Option ℕ) (goal : Part) (ts : List Thread) (i : ℕ) 
 unfolding least_from
 least_end least goal ts i e = rw (e, drop_end ts) refl
 
-pub among_here : (ts : List Thread) (t : Thread) (i : ℕ) (x : Thread) → i < length ts → x ≡ get_or ts i x → same_future x t ≡ true → is_among (drop i ts) t ≡ true
+pub among_here : (ts : List Thread) (t : Thread) (i : ℕ) (x : Thread) → i < length ts → x ≡ get_or ts i x → goes_as_far x t ≡ true → is_among (drop i ts) t ≡ true
 unfolding is_among
 among_here ts t i x h e b = rw (drop_item ts i x h e, b) refl
 
-pub among_next : (ts : List Thread) (t : Thread) (i : ℕ) (x : Thread) → i < length ts → x ≡ get_or ts i x → same_future x t ≡ false
+pub among_next : (ts : List Thread) (t : Thread) (i : ℕ) (x : Thread) → i < length ts → x ≡ get_or ts i x → goes_as_far x t ≡ false
     → is_among (drop i ts) t ≡ is_among (drop (i + 1) ts) t
 unfolding is_among
 among_next ts t i x h e b = rw (drop_item ts i x h e, b) refl

@@ -1,5 +1,5 @@
 -- One step down a list, for what is defined by recursion on it.
-use Rattle.std.proofs.Common.{◌≡◌, ℕ, zero, suc, ◌+◌, ◌-◌, ◌<◌, ◌≤◌, ◌≢◌, true, false, ◌&&◌, List, [], ◌∷◌, map, length, drop, get_or, refl, sym, ap, subst, arith, add-one, drop-cons, take, length-drop, take_all}
+use Rattle.std.proofs.Common.{◌≡◌, ℕ, zero, suc, ◌+◌, ◌-◌, ◌<◌, ◌≤◌, ◌≢◌, Bool, true, false, ◌&&◌, List, [], ◌∷◌, map, length, reverse, drop, get_or, refl, sym, ◌∙◌, ap, subst, arith, add-one, drop-cons, take, length-drop, take_all}
 use Rattle.zig_tree.specs.declared.grammar.Part.{Part}
 use Rattle.zig_tree.specs.declared.grammar.Production.{Production}
 use Rattle.zig_tree.specs.Grammar.{holds}
@@ -8,7 +8,8 @@ use Rattle.zig_tree.specs.Productions.{alternative}
 use Rattle.zig_parse.specs.declared.choice.Look.{Look}
 use Rattle.zig_parse.specs.declared.thread.Item.{Item}
 use Rattle.zig_parse.specs.Choices.{matching}
-use Rattle.zig_parse.specs.Moves.{same_parts}
+use Rattle.zig_parse.specs.Stack.{rest}
+use Rattle.zig_parse.specs.Moves.{covers, covers_items, same_parts}
 use Rattle.zig_parse.specs.Threads.{item}
 
 -- an alternative that may be taken is the first of those from it on
@@ -72,6 +73,39 @@ same_end [] (y ∷ b) h = absurd (omega arith)
 same_end (x ∷ a) [] h = absurd (omega arith)
 same_end (x ∷ a) (y ∷ b) h = same_end a b (omega arith)
 
+-- two lists that have a first thing each are compared by it, and below it
+covers_here : (a b : List Item) (x y : Item) → a ≡ x ∷ rest a → b ≡ y ∷ rest b → covers_items a b ≡ (covers x.part y.part && same_parts (reverse (rest a)) (reverse (rest b)))
+unfolding covers_items
+covers_here [] b x y e h = absurd (cc)
+covers_here (i ∷ is) [] x y e h = absurd (cc)
+covers_here (i ∷ is) (j ∷ js) x y e h =
+    let first : i ≡ x = cc in
+    let other : j ≡ y = cc in
+    ap (λ (z : Item). covers z.part j.part && same_parts (reverse is) (reverse js)) first ∙ ap (λ (z : Item). covers x.part z.part && same_parts (reverse is) (reverse js)) other
+
+pub covers_below : (a b : List Item) (x y : Item) → a ≡ x ∷ rest a → b ≡ y ∷ rest b → covers x.part y.part ≡ true → covers_items a b ≡ same_parts (reverse (rest a)) (reverse (rest b))
+covers_below a b x y e h k = covers_here a b x y e h ∙ ap (λ (v : Bool). v && same_parts (reverse (rest a)) (reverse (rest b))) k
+
+pub covers_not : (a b : List Item) (x y : Item) → a ≡ x ∷ rest a → b ≡ y ∷ rest b → covers x.part y.part ≡ false → covers_items a b ≡ false
+covers_not a b x y e h k = covers_here a b x y e h ∙ ap (λ (v : Bool). v && same_parts (reverse (rest a)) (reverse (rest b))) k
+
+pub covers_none : (a b : List Item) → a ≡ [] → b ≡ [] → covers_items a b ≡ true
+unfolding covers_items
+covers_none a b e h = rw (e, h) refl
+
+-- a list that ends before the other
+pub covers_longer : (a b : List Item) (x : Item) → a ≡ x ∷ rest a → b ≡ [] → covers_items a b ≡ false
+unfolding covers_items
+covers_longer [] b x e h = absurd (cc)
+covers_longer (i ∷ is) [] x e h = refl
+covers_longer (i ∷ is) (j ∷ js) x e h = absurd (cc)
+
+pub covers_shorter : (a b : List Item) (y : Item) → a ≡ [] → b ≡ y ∷ rest b → covers_items a b ≡ false
+unfolding covers_items
+covers_shorter [] [] y e h = absurd (cc)
+covers_shorter [] (j ∷ js) y e h = refl
+covers_shorter (i ∷ is) b y e h = absurd (cc)
+
 -- one more part from the back
 put_at : (level j : ℕ) (ps : List Part) (d : Part) → j < length ps
     → map (item level) (drop j ps) ≡ item level (get_or ps j d) ∷ map (item level) (drop (suc j) ps)
@@ -87,6 +121,8 @@ put_step level k ps d h e =
 pub ruleset matching_steps = (matching_here, matching_next, matching_none)
 
 pub ruleset item_steps = (same_length, same_next, same_stop, same_end)
+
+pub ruleset cover_steps = (covers_none, covers_longer, covers_shorter)
 
 pub matching_end : (look : Look) (ps : List Production) (i : ℕ) → i ≡ length ps → matching look (map alternative (drop i ps)) ≡ []
 matching_end look ps i e = rw e (matching_none look ps)

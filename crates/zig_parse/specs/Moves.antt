@@ -1,7 +1,9 @@
 -- What threads do before they read a token.
-use Rattle.std.specs.Prelude.{ℕ, zero, suc, ◌+◌, ◌*◌, Bool, true, false, ◌&&◌, nat_lt, List, [], ◌∷◌, ◌++◌, length, reverse, Option, Some, None, if◌then◌else◌}
+use Rattle.std.specs.Prelude.{ℕ, zero, suc, ◌+◌, ◌*◌, Bool, true, false, ◌&&◌, ◌||◌, nat_lt, List, [], ◌∷◌, ◌++◌, length, reverse, Option, Some, None, if◌then◌else◌}
 use Rattle.zig_tree.specs.declared.token.TokenKind.TheVariants.{LeftBrace}
+use Rattle.zig_tree.specs.declared.token.TokenKind.TheVariants as kind
 use Rattle.zig_tree.specs.declared.grammar.Rule.{Rule}
+use Rattle.zig_tree.specs.declared.grammar.Group.TheVariants as group
 use Rattle.zig_tree.specs.declared.grammar.Part.{Part}
 use Rattle.zig_tree.specs.declared.grammar.Part.TheVariants as part
 use Rattle.zig_tree.specs.Kinds.{is_kind, is_part, has_kind}
@@ -100,6 +102,21 @@ same_parts (i ∷ is) (j ∷ js) = is_part i.part j.part && same_parts is js
 same_parts [] (j ∷ js) = false
 same_parts (i ∷ is) [] = false
 
--- whether two threads in one brace have the same to come
-unfoldable pub same_future : Thread → Thread → Bool
-same_future a b = is_part a.goal b.goal && same_parts (reverse a.items) (reverse b.items)
+-- whether all that begins with the second part could begin with the first: a name behind a dot
+abbrev pub reads_more : Part → Part → Bool
+reads_more a b = is_part a (part.Group group.DotAtom) && is_part b (part.Token kind.Identifier)
+
+-- whether the first part reads at least what the second does
+abbrev pub covers : Part → Part → Bool
+covers a b = is_part a b || reads_more a b
+
+-- whether the first of what is to come reads at least what the other does, and the rest is the same
+unfoldable pub covers_items : List Item → List Item → Bool
+covers_items [] [] = true
+covers_items (i ∷ is) (j ∷ js) = covers i.part j.part && same_parts (reverse is) (reverse js)
+covers_items [] (j ∷ js) = false
+covers_items (i ∷ is) [] = false
+
+-- whether what the second of two threads in one brace reads to its end the first does too
+unfoldable pub goes_as_far : Thread → Thread → Bool
+goes_as_far a b = is_part a.goal b.goal && covers_items a.items b.items

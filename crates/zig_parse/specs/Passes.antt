@@ -15,7 +15,7 @@ use Rattle.zig_parse.specs.declared.survey.Verdict.{Verdict}
 use Rattle.zig_parse.specs.declared.survey.Verdict.TheVariants as verdict
 use Rattle.zig_parse.specs.Choices.{choices}
 use Rattle.zig_parse.specs.Threads.{after_read, fresh, met_part, opened, put, received, risen, surround, with_choices}
-use Rattle.zig_parse.specs.Moves.{same_future, waits_for}
+use Rattle.zig_parse.specs.Moves.{goes_as_far, waits_for}
 
 -- the alternatives of a part that are taken
 abbrev pub part_choices : Look → Part → List (List Part)
@@ -90,12 +90,12 @@ inside look waiting =
     begun_for look waiting (part.Rule rule.Block) ++ (begun_for look waiting (part.Rule rule.Initializer) ++ (begun_for look waiting (part.Rule rule.ContainerBody)
     ++ (begun_for look waiting (part.Group group.ErrorBraces) ++ begun_for look waiting (part.Group group.SwitchBraces))))
 
--- whether one of some threads goes on as this one does
+-- whether one of some threads reads whatever this one does
 unfoldable pub is_among : List Thread → Thread → Bool
 is_among [] t = false
-is_among (other ∷ others) t = same_future other t || is_among others t
+is_among (other ∷ others) t = goes_as_far other t || is_among others t
 
--- a thread is kept where no earlier one goes on as it does
+-- a thread is kept where no earlier one reads whatever it does
 abbrev pub kept_with : List Thread → Thread → List Thread
 kept_with kept t = if is_among kept t then kept else kept ++ t ∷ []
 

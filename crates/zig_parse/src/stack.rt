@@ -1,6 +1,6 @@
 // A list that grows and shrinks at its front.
 ghost use Rattle.std.specs.Prelude.{◌≡◌, ◌∷◌, ◌++◌, [], length, if◌then◌else◌, is_ok, IfOk, OnOk, reverse};
-ghost use Rattle.zig_parse.specs.Stack.{Popped, Topped, with_first};
+ghost use Rattle.zig_parse.specs.Stack.{Popped, Topped, rest, with_first};
 
 use std::alloc::{AllocError, Global};
 use std::marker::Model;
@@ -74,6 +74,15 @@ impl<T: Copy> Stack<T> {
         ensures { Topped self.now result }
     {
         self.inner.last().copied()
+    }
+
+    /// The values below the front, from the last on.
+    #[tactic(auto, using(crate::proofs::Front::below_last))]
+    pub fn below(&self) -> &[T]
+        ensures { result.now ≡ reverse (rest self.now) }
+    {
+        let inner = self.inner.as_slice();
+        &inner[..inner.len().saturating_sub(1)]
     }
 
     #[tactic(auto, using(crate::proofs::Front::set_last))]

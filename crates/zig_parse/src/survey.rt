@@ -12,7 +12,7 @@ ghost use Rattle.zig_parse.specs.Passes as spec;
 
 use crate::choice::{Choice, Look, group_choice, rule_choice};
 use crate::stack::Stack;
-use crate::thread::{LIMIT, Thread, same_future};
+use crate::thread::{LIMIT, Thread, goes_as_far};
 use std::alloc::{AllocError, Global};
 use zig_tree::{Group, Part, Rule, TokenKind, same_kind, same_part};
 
@@ -192,20 +192,20 @@ pub fn inside(alloc: Global, waiting: &[Thread], look: Look) -> Result<Stack<Thr
     Ok(live)
 }
 
-/// Whether a thread goes on as one of these does.
+/// Whether one of these reads whatever a thread does.
 #[tactic(auto, using(crate::proofs::Slices::slice_steps))]
 fn is_among(kept: &[Thread], thread: &Thread) -> bool
     ensures { result ≡ spec.is_among kept.now thread.now }
 {
     for other in kept {
-        if same_future(other, thread) {
+        if goes_as_far(other, thread) {
             return true;
         }
     }
     false
 }
 
-/// A thread joins those that are kept, unless one of them goes on as it does.
+/// A thread joins those that are kept, unless one of them reads whatever it does.
 fn keep(kept: &mut Vec<Thread>, thread: Thread) -> Result<(), AllocError>
     ensures { OnOk result (kept.new.items ≡ spec.kept_with kept.old.items thread) }
 {
@@ -215,8 +215,8 @@ fn keep(kept: &mut Vec<Thread>, thread: Thread) -> Result<(), AllocError>
     Ok(())
 }
 
-/// The threads after the token, and whether one reads it within the limit of depth. Of those that go
-/// on in the same way the first one stays.
+/// The threads after the token, and whether one reads it within the limit of depth. One that reads
+/// nothing to its end but what an earlier one does is dropped.
 #[tactic(auto, unfolding(crate::specs::Passes::after_token, crate::specs::Passes::any_shallow))]
 pub fn after_token(
     alloc: Global,

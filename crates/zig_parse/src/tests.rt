@@ -247,6 +247,25 @@ fn nested() -> &'static [(&'static str, &'static str, u32, Wanted)] {
     ]
 }
 
+/// How many blocks of a function, one in the other, stand around a statement, the statement, and the answer.
+fn bottoms() -> &'static [(u32, &'static str, Wanted)] {
+    &[
+        (61, "( { switch ( x ) { } [ ( ( a ) ) ] ; } ) ;", Tree),
+        (
+            61,
+            "( { switch ( x ) { } [ ( ( a ) ) ] . x ; } ) ;",
+            TooDeep(82),
+        ),
+        (
+            61,
+            "( { switch ( x ) { } [ ( ( a ) ) ] . { } ; } ) ;",
+            TooDeep(82),
+        ),
+        (60, "( { switch ( x ) { } [ ( ( a ) ) ] . x ; } ) ;", Tree),
+        (60, "( { switch ( x ) { } [ ( ( a ) ) ] . { } ; } ) ;", Tree),
+    ]
+}
+
 /// Words and symbols with their kinds.
 const WORDS: [(&str, TokenKind); 112] = [
     ("addrspace", TokenKind::KeywordAddrspace),
@@ -444,6 +463,29 @@ fn nested_deep(rt: HostRuntime) -> Result<(), Fail> {
             answer(rt.alloc(), tokens.as_slice())?,
             *wanted,
             "{text} {again} .."
+        );
+    }
+    Ok(())
+}
+
+#[test]
+fn at_the_bottom(rt: HostRuntime) -> Result<(), Fail> {
+    for (blocks, text, wanted) in bottoms() {
+        let mut tokens = Vec::new(rt.alloc());
+        add(&mut tokens, "fn f ( ) void {")?;
+        for _ in 0..*blocks {
+            add(&mut tokens, "{")?;
+        }
+        add(&mut tokens, text)?;
+        for _ in 0..*blocks {
+            add(&mut tokens, "}")?;
+        }
+        add(&mut tokens, "}")?;
+        end(&mut tokens)?;
+        assert_eq!(rt;
+            answer(rt.alloc(), tokens.as_slice())?,
+            *wanted,
+            "{blocks} {text}"
         );
     }
     Ok(())

@@ -409,12 +409,35 @@ fn is_below_limit(depth: u32, height: u32) -> bool
     depth.saturating_add(height) > LIMIT
 }
 
-/// Whether two threads in one brace have the same to come.
-#[tactic(auto, unfolding(crate::specs::Moves::same_future))]
-pub fn same_future(a: &Thread, b: &Thread) -> bool
-    ensures { result ≡ moves.same_future a.now b.now }
+/// Whether what one thread in a brace reads to its end another does too.
+#[tactic(auto, unfolding(crate::specs::Moves::goes_as_far))]
+pub fn goes_as_far(a: &Thread, b: &Thread) -> bool
+    ensures { result ≡ moves.goes_as_far a.now b.now }
 {
-    same_part(a.goal, b.goal) && same_items(a.items.as_slice(), b.items.as_slice())
+    same_part(a.goal, b.goal) && covers_items(&a.items, &b.items)
+}
+
+/// Whether the first of what is to come reads at least what the other does, and the rest is the same.
+#[tactic(auto, using(crate::proofs::Steps::cover_steps))]
+fn covers_items(a: &Stack<Item>, b: &Stack<Item>) -> bool
+    ensures { result ≡ moves.covers_items a.now b.now }
+{
+    match (a.top(), b.top()) {
+        (Some(first), Some(other)) => {
+            covers(first.part, other.part) && same_items(a.below(), b.below())
+        }
+        (None, None) => true,
+        (Some(_), None) | (None, Some(_)) => false,
+    }
+}
+
+/// Whether a part derives at least what another does: a name behind a dot is one of what may stand there.
+fn covers(a: Part, b: Part) -> bool
+    ensures { result ≡ moves.covers a b }
+{
+    same_part(a, b)
+        || same_part(a, Part::Group(Group::DotAtom))
+            && same_part(b, Part::Token(TokenKind::Identifier))
 }
 
 /// Whether two lists of what is to come have the same parts.
