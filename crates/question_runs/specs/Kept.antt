@@ -1,5 +1,5 @@
 -- What an update keeps for the next one, and what of it is as it was.
-use Rattle.std.specs.Prelude.{◌≡◌, ◌≢◌, ℕ, List, [], ◌⊎◌, Option, Some, None}
+use Rattle.std.specs.Prelude.{◌≡◌, ◌≢◌, ℕ, List, [], ◌⊎◌, Some, None}
 use Rattle.std.specs.List.{Contains}
 use Rattle.question_runs.specs.Runs.{Run}
 use Rattle.question_runs.specs.Rounds.{Language, Asks, WasGiven, result_of, round, run_at, Demanded}

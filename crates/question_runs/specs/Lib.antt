@@ -1,4 +1,5 @@
 pub mod Programs
 pub mod Runs
+pub mod RunLaws
 pub mod Rounds
 pub mod Kept

@@ -1,11 +1,11 @@
 -- Results by rounds: what units give where each round knows the results of the round before it. From them, which units are demanded and which are stuck.
 --
 -- Q are questions, A answers, U units and R results.
-use Rattle.std.specs.Prelude.{◌≡◌, ℕ, zero, suc, Bool, List, [], ◌∷◌, ◌⊎◌, Option, Some, None, ⊤}
+use Rattle.std.specs.Prelude.{◌≡◌, ℕ, zero, suc, Bool, List, [], ◌⊎◌, Option, Some, None}
 use Rattle.std.specs.List.{Contains}
 use Rattle.std.specs.Option.{option_map, option_and_then}
 use Rattle.question_runs.specs.Programs.{Prog}
-use Rattle.question_runs.specs.Runs.{Run, ends, fails, stops, goes, Move, asked, referred, Setting, run, stop_of}
+use Rattle.question_runs.specs.Runs.{Run, ends, fails, stops, goes, asked, referred, Setting, run, stop_of}
 
 -- what the definitions below ask of a language
 pub record Language (Q A U R : Type 0) : Type 0 where

@@ -7,3 +7,24 @@
 //! Public calls do nothing; their clauses are the laws.
 //! The crate stands on nothing.
 #![tactic(auto)]
+
+ghost use Rattle.question_runs.specs.RunLaws.{RunsHonestly, RunsByAnswers, MoreAnswers, FirstParts, TracesLead, OneTurn, OneThenAnother};
+
+/// The answers of a run are those at hand, and a run depends on them alone.
+pub fn runs_by_answers<Question, Answer, Unit, Outcome>()
+    ensures honest { RunsHonestly Question Answer Unit Outcome }
+    ensures by_answers { RunsByAnswers Question Answer Unit Outcome }
+    ensures more_answers { MoreAnswers Question Answer Unit Outcome }
+{}
+
+/// A part of a run from its beginning says what comes next, whatever else has changed.
+pub fn runs_by_traces<Question, Answer, Unit, Outcome>()
+    ensures first_parts { FirstParts Question Answer Unit Outcome }
+    ensures traces_lead { TracesLead Question Answer Unit Outcome }
+{}
+
+/// How the run of a whole follows from runs of its parts.
+pub fn runs_by_parts<Question, Answer, Unit, Outcome, Last>()
+    ensures one_turn { OneTurn Question Answer Unit Outcome }
+    ensures one_then_another { OneThenAnother Question Answer Unit Outcome Last }
+{}

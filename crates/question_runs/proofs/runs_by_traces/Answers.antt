@@ -1,0 +1,8 @@
+use Rattle.question_runs.proofs.RunParts.{first-parts, traces-lead}
+use Rattle.question_runs.proofs.runs_by_traces.Goals as goal
+
+pub returns-clause-first_parts : goal.returns-clause-first_parts
+returns-clause-first_parts g c = first-parts
+
+pub returns-clause-traces_lead : goal.returns-clause-traces_lead
+returns-clause-traces_lead g c = traces-lead
