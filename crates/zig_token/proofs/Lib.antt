@@ -1,4 +1,3 @@
-pub mod Rows
 pub mod Skips
 pub mod Lines
 pub mod Quotes

@@ -1,4 +1,3 @@
-pub mod Tables
 pub mod Escapes
 pub mod Scan
 pub mod Answer

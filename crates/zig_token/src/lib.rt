@@ -15,7 +15,6 @@ mod line;
 mod piece;
 mod quoted;
 mod scan;
-mod tables;
 mod utf8;
 mod word;
 

@@ -6,9 +6,8 @@ use crate::bytes::{byte_at, is_blank, is_digit, is_name_start};
 use crate::fault::LexFault;
 use crate::line::{begins, line_end, lines_end};
 use crate::quoted::{char_end, quoted_end};
-use crate::tables::{symbol_at_front, word_kind};
 use crate::word::{name_end, number_end};
-use zig_tree::TokenKind;
+use zig_tree::{TokenKind, symbol_at_front, word_kind};
 
 /// A piece of a text, from the place where it begins to before `end`.
 #[derive(Clone, Copy, Debug, PartialEq, Eq)]

@@ -1,6 +1,7 @@
 pub mod TokenBytes
 pub mod TokenNumbers
 pub mod TokenTables
+pub mod Written
 pub mod Tokens
 pub mod Kinds
 pub mod Grammar

@@ -1,5 +1,6 @@
 -- The words and symbols of Zig's text, one a row.
-use Rattle.std.specs.Prelude.{ℕ, List, [], ◌∷◌, codes, length, Option, Some, None, if◌then◌else◌, unwrap_or}
+use Rattle.std.specs.Prelude.{ℕ, List, [], ◌∷◌, codes, length, Option, Some, None, Bool, if◌then◌else◌, unwrap_or}
+use Rattle.std.specs.Option.{is_some}
 use Rattle.std.specs.Str.{bytes_eq}
 use Rattle.std.specs.List.{starts_with}
 use Rattle.std.specs.Prelude.{nat_eq}
@@ -10,11 +11,10 @@ use Rattle.zig_tree.specs.declared.token.TokenKind.TheVariants.{Identifier, Unde
 abbrev pub Row : Type 0
 Row = List ℕ × TokenKind
 
--- `_`, which discards, and the keywords
-abbrev pub words : List Row
-words =
-    (codes "_", Underscore)
-    ∷ (codes "addrspace", KeywordAddrspace)
+-- the keywords
+abbrev pub keywords : List Row
+keywords =
+    (codes "addrspace", KeywordAddrspace)
     ∷ (codes "align", KeywordAlign)
     ∷ (codes "allowzero", KeywordAllowzero)
     ∷ (codes "and", KeywordAnd)
@@ -64,6 +64,10 @@ words =
     ∷ (codes "volatile", KeywordVolatile)
     ∷ (codes "while", KeywordWhile)
     ∷ []
+
+-- `_`, which discards, and the keywords
+abbrev pub words : List Row
+words = (codes "_", Underscore) ∷ keywords
 
 -- the symbols; a longer one stands before what begins it
 abbrev pub symbols : List Row
@@ -136,6 +140,10 @@ symbols =
 unfoldable pub kind_of_row : List Row → List ℕ → Option TokenKind
 kind_of_row [] word = None
 kind_of_row (row ∷ rows) word = if bytes_eq row.0 word then Some row.1 else kind_of_row rows word
+
+-- whether a name is spelled like a keyword
+unfoldable pub is_keyword : List ℕ → Bool
+is_keyword name = is_some (kind_of_row keywords name)
 
 -- the kind of a name that is no quoted one
 unfoldable pub word_kind : List ℕ → TokenKind

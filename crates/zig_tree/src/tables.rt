@@ -1,17 +1,16 @@
 // The words and symbols of Zig's text, one a row (Zig Language Reference 0.14, "Grammar").
 
 ghost use Rattle.std.specs.Prelude.{◌≡◌};
-ghost use Rattle.zig_tree.specs.TokenTables.{words, symbols, kind_of_row, word_kind, row_at_front};
-ghost use Rattle.zig_token.specs.Tables.{written};
+ghost use Rattle.zig_tree.specs.TokenTables.{is_keyword, keywords, symbols, kind_of_row, word_kind, row_at_front};
+ghost use Rattle.zig_tree.specs.Written.{written};
 
-use zig_tree::TokenKind;
+use crate::token::TokenKind;
 
 /// A row: what is written, and the kind of token that it is.
 pub type Row = (&'static str, TokenKind);
 
-/// `_`, which discards, and the keywords.
-pub const WORDS: [Row; 50] = [
-    ("_", TokenKind::Underscore),
+/// The keywords.
+pub const KEYWORDS: [Row; 49] = [
     ("addrspace", TokenKind::KeywordAddrspace),
     ("align", TokenKind::KeywordAlign),
     ("allowzero", TokenKind::KeywordAllowzero),
@@ -141,12 +140,30 @@ fn kind_of_row(rows: &[Row], word: &[u8]) -> Option<TokenKind>
     None
 }
 
+/// The kind of the keyword that is spelled like a name, where there is one.
+pub fn keyword_kind(name: &[u8]) -> Option<TokenKind>
+    ensures { result ≡ kind_of_row keywords name.now }
+{
+    kind_of_row(&KEYWORDS, name)
+}
+
+/// Whether a name is spelled like a keyword, so that it is no identifier unless it is quoted.
+#[tactic(auto, unfolding(crate::specs::TokenTables::is_keyword))]
+pub fn is_keyword(name: &[u8]) -> bool
+    ensures { result ≡ is_keyword name.now }
+{
+    keyword_kind(name).is_some()
+}
+
 /// What a name is that is no quoted one.
-#[tactic(auto, unfolding(zig_tree::specs::TokenTables::word_kind))]
+#[tactic(auto, unfolding(crate::specs::TokenTables::kind_of_row, crate::specs::TokenTables::word_kind))]
 pub fn word_kind(word: &[u8]) -> TokenKind
     ensures { result ≡ word_kind word.now }
 {
-    kind_of_row(&WORDS, word).unwrap_or(TokenKind::Identifier)
+    if word == b"_".as_slice() {
+        return TokenKind::Underscore;
+    }
+    keyword_kind(word).unwrap_or(TokenKind::Identifier)
 }
 
 #[tactic(auto, using(crate::proofs::Rows::front_here, crate::proofs::Rows::front_further, crate::proofs::Rows::front_none))]

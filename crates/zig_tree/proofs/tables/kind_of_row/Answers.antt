@@ -1,6 +1,6 @@
 use Rattle.std.proofs.Common.{sym, ◌∙◌}
-use Rattle.zig_token.proofs.Rows.{kind_here, kind_further}
-use Rattle.zig_token.proofs.tables.kind_of_row.Goals as goal
+use Rattle.zig_tree.proofs.Rows.{kind_here, kind_further}
+use Rattle.zig_tree.proofs.tables.kind_of_row.Goals as goal
 
 pub returns-then-eq : goal.returns-then-eq
 returns-then-eq c =

@@ -6,7 +6,7 @@ use Rattle.std.specs.List.{starts_with}
 use Rattle.std.proofs.lemmas.List.{drop_more, drop_all}
 use Rattle.zig_tree.specs.declared.token.TokenKind.{TokenKind}
 use Rattle.zig_tree.specs.TokenTables.{kind_of_row, row_at_front}
-use Rattle.zig_token.specs.Tables.{written}
+use Rattle.zig_tree.specs.Written.{written}
 
 module _ (rows : List (Bor (List ℕ) × TokenKind)) (bytes : List ℕ) (i : ℕ) where
   pub kind_here : (d : Bor (List ℕ) × TokenKind) → i < length rows → bytes_eq (get_or rows i d).0.now bytes ≡ true → kind_of_row (written (drop i rows)) bytes ≡ Some (get_or rows i d).1
