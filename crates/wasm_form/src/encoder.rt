@@ -55,11 +55,13 @@ fn put_sections(alloc: Global, m: &Module, out: &mut ByteBuf) -> Result<(), Allo
     ensures { OnOk result (out.new.bytes ≡ module_bytes m.now) }
 {
     put_section(alloc, 1, m.types.as_slice(), out)?;
+    put_section(alloc, 2, m.imports.as_slice(), out)?;
     put_section(alloc, 3, m.functions.as_slice(), out)?;
     put_section(alloc, 5, m.memories.as_slice(), out)?;
     put_section(alloc, 6, m.globals.as_slice(), out)?;
     put_section(alloc, 7, m.exports.as_slice(), out)?;
-    put_section(alloc, 10, m.codes.as_slice(), out)
+    put_section(alloc, 10, m.codes.as_slice(), out)?;
+    put_section(alloc, 11, m.data.as_slice(), out)
 }
 
 /// Appends a section, unless it has no entry.

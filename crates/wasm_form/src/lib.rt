@@ -7,12 +7,16 @@
 #![tactic(auto)]
 
 mod encoder;
+mod instr;
+mod instr_bytes;
 mod module;
 mod parts;
 #[cfg(test)]
 mod tests;
 
 pub use encoder::{EncodeFault, encode};
+pub use instr::{BinaryOp, BlockType, Comparison, Instr, LoadKind, StoreKind, UnaryOp};
 pub use module::{
-    Code, Export, Exported, FnType, Global, Instr, Locals, Memory, Module, TypeIndex, ValType,
+    Code, Export, Exported, FnType, Global, Import, Locals, Memory, Module, Segment, TypeIndex,
+    ValType,
 };

@@ -1,4 +1,5 @@
 // A module, section by section (WebAssembly Core 1.0, section 5.5).
+use crate::instr::Instr;
 use zw_base::{Bytes, Seq};
 
 /// A type of values (section 5.3.1).
@@ -13,6 +14,14 @@ pub enum ValType {
 pub struct FnType {
     pub params: Seq<ValType>,
     pub result: Option<ValType>,
+}
+
+/// A function that the module's host gives, by the two levels of its name (section 5.5.5).
+#[derive(Debug, Drop)]
+pub struct Import {
+    pub module_name: Bytes,
+    pub name: Bytes,
+    pub kind: TypeIndex,
 }
 
 /// A place in the list of types.
@@ -63,25 +72,23 @@ pub struct Code {
     pub body: Seq<Instr>,
 }
 
-/// An instruction (section 5.4).
-#[derive(Clone, Copy, Debug, PartialEq, Eq)]
-pub enum Instr {
-    /// `end` of a block.
-    End,
-    /// `return`.
-    Return,
-    /// `i32.const`, of the number with these 32 bits.
-    I32Const(i32),
+/// Bytes that stand in memory 0 from the start, and where (section 5.5.14).
+#[derive(Debug, Drop)]
+pub struct Segment {
+    pub place: i32,
+    pub bytes: Bytes,
 }
 
 /// A module. Its sections stand in the order of the binary format; one without an entry is left out.
 #[derive(Debug, Drop)]
 pub struct Module {
     pub types: Seq<FnType>,
+    pub imports: Seq<Import>,
     pub functions: Seq<TypeIndex>,
     pub memories: Seq<Memory>,
     pub globals: Seq<Global>,
     pub exports: Seq<Export>,
     /// The codes of `functions`, in their order.
     pub codes: Seq<Code>,
+    pub data: Seq<Segment>,
 }

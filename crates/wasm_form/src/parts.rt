@@ -2,10 +2,11 @@
 ghost use Rattle.std.specs.Prelude.{◌≡◌, ◌++◌, [], ◌∷◌, ℕ, List, OnOk};
 ghost use Rattle.std.specs.List.{flat_map};
 ghost use Rattle.zw_bytes.specs.Leb.{unsigned_leb};
-ghost use Rattle.wasm_form.specs.Binary.{vector_bytes, name_bytes, val_type_bytes, fn_type_bytes, instr_bytes, expr_bytes, type_index_bytes, memory_bytes, global_bytes, exported_bytes, export_bytes, locals_bytes, function_bytes, code_bytes};
+ghost use Rattle.wasm_form.specs.Binary.{vector_bytes, name_bytes, val_type_bytes, fn_type_bytes, expr_bytes, type_index_bytes, memory_bytes, global_bytes, import_bytes, segment_bytes, exported_bytes, export_bytes, locals_bytes, function_bytes, code_bytes};
 
+use crate::instr::Instr;
 use crate::module::{
-    Code, Export, Exported, FnType, Global, Instr, Locals, Memory, TypeIndex, ValType,
+    Code, Export, Exported, FnType, Global, Import, Locals, Memory, Segment, TypeIndex, ValType,
 };
 use std::alloc::{AllocError, Global as Heap};
 use zw_bytes::ByteBuf;
@@ -112,28 +113,22 @@ impl Encode for FnType {
     }
 }
 
-impl Encode for Instr {
-    ghost bytes = { instr_bytes };
-
-    fn put_into(&self, _alloc: Heap, out: &mut ByteBuf) -> Result<(), AllocError> {
-        match self {
-            Instr::End => put_byte(END, out),
-            Instr::Return => put_byte(0x0f, out),
-            Instr::I32Const(n) => {
-                out.reserve(6)?;
-                out.put(0x41);
-                out.put_s32(*n);
-                Ok(())
-            }
-        }
-    }
-}
-
 impl Encode for TypeIndex {
     ghost bytes = { type_index_bytes };
 
     fn put_into(&self, _alloc: Heap, out: &mut ByteBuf) -> Result<(), AllocError> {
         put_number(self.0, out)
+    }
+}
+
+impl Encode for Import {
+    ghost bytes = { import_bytes };
+
+    fn put_into(&self, alloc: Heap, out: &mut ByteBuf) -> Result<(), AllocError> {
+        put_name(self.module_name.as_slice(), out)?;
+        put_name(self.name.as_slice(), out)?;
+        put_byte(0x00, out)?;
+        self.kind.put_into(alloc, out)
     }
 }
 
@@ -195,6 +190,17 @@ impl Encode for Code {
         put_function(alloc, self, &mut function)?;
         put_len(function.len(), out)?;
         out.put_slice(function.as_slice())
+    }
+}
+
+impl Encode for Segment {
+    ghost bytes = { segment_bytes };
+
+    fn put_into(&self, alloc: Heap, out: &mut ByteBuf) -> Result<(), AllocError> {
+        put_byte(0x00, out)?;
+        put_expr(alloc, &[Instr::I32Const(self.place)], out)?;
+        put_len(self.bytes.len(), out)?;
+        out.put_slice(self.bytes.as_slice())
     }
 }
 

@@ -1,7 +1,7 @@
-// A module whose bytes were put together by hand from the standard.
+// Modules whose bytes were put together by hand from the standard, or by `wat2wasm`.
 use crate::{
-    Code, Export, Exported, FnType, Global, Instr, Locals, Memory, Module, TypeIndex, ValType,
-    encode,
+    BinaryOp, BlockType, Code, Comparison, Export, Exported, FnType, Global, Import, Instr,
+    LoadKind, Locals, Memory, Module, Segment, StoreKind, TypeIndex, UnaryOp, ValType, encode,
 };
 use std::alloc::Global as Heap;
 use std::test::Fail;
@@ -37,23 +37,213 @@ fn wide(alloc: Heap) -> Result<Module, Fail> {
     };
     Ok(Module {
         types: Seq::of(vec![in alloc; types]?),
+        imports: Seq::of(Vec::new(alloc)),
         functions: Seq::of(vec![in alloc; TypeIndex(0)]?),
         memories: Seq::of(vec![in alloc; Memory { min_pages: 128 }]?),
         globals: Seq::of(vec![in alloc; global]?),
         exports: Seq::of(vec![in alloc; export]?),
         codes: Seq::of(vec![in alloc; code]?),
+        data: Seq::of(Vec::new(alloc)),
     })
 }
 
 fn empty(alloc: Heap) -> Module {
     Module {
         types: Seq::of(Vec::new(alloc)),
+        imports: Seq::of(Vec::new(alloc)),
         functions: Seq::of(Vec::new(alloc)),
         memories: Seq::of(Vec::new(alloc)),
         globals: Seq::of(Vec::new(alloc)),
         exports: Seq::of(Vec::new(alloc)),
         codes: Seq::of(Vec::new(alloc)),
+        data: Seq::of(Vec::new(alloc)),
     }
+}
+
+/// A function's body in which each instruction stands.
+const EVERY_INSTRUCTION: [Instr; 137] = [
+    Instr::Unreachable,
+    Instr::Block(BlockType::Empty),
+    Instr::Br(0),
+    Instr::End,
+    Instr::Loop(BlockType::I32),
+    Instr::Unreachable,
+    Instr::End,
+    Instr::If(BlockType::I32),
+    Instr::I32Const(-1),
+    Instr::Else,
+    Instr::I32Const(64),
+    Instr::End,
+    Instr::Drop,
+    Instr::LocalGet(200),
+    Instr::LocalSet(0),
+    Instr::Unreachable,
+    Instr::LocalTee(2),
+    Instr::GlobalSet(0),
+    Instr::GlobalGet(0),
+    Instr::Drop,
+    Instr::Unreachable,
+    Instr::LocalGet(0),
+    Instr::Load(LoadKind::I32, 0),
+    Instr::Drop,
+    Instr::LocalGet(0),
+    Instr::Load(LoadKind::I64, 300),
+    Instr::Drop,
+    Instr::LocalGet(0),
+    Instr::Load(LoadKind::I32Signed8, 1),
+    Instr::Drop,
+    Instr::LocalGet(0),
+    Instr::Load(LoadKind::I32Unsigned8, 2),
+    Instr::Drop,
+    Instr::LocalGet(0),
+    Instr::Load(LoadKind::I32Signed16, 3),
+    Instr::Drop,
+    Instr::LocalGet(0),
+    Instr::Load(LoadKind::I32Unsigned16, 4),
+    Instr::Drop,
+    Instr::Unreachable,
+    Instr::Store(StoreKind::I32, 0),
+    Instr::Store(StoreKind::I64, 300),
+    Instr::Store(StoreKind::I32Low8, 1),
+    Instr::Store(StoreKind::I32Low16, 2),
+    Instr::IsZero(ValType::I32),
+    Instr::Unreachable,
+    Instr::Compare(ValType::I32, Comparison::Equal),
+    Instr::Unreachable,
+    Instr::Compare(ValType::I32, Comparison::NotEqual),
+    Instr::Unreachable,
+    Instr::Compare(ValType::I32, Comparison::LessSigned),
+    Instr::Unreachable,
+    Instr::Compare(ValType::I32, Comparison::LessUnsigned),
+    Instr::Unreachable,
+    Instr::Compare(ValType::I32, Comparison::GreaterSigned),
+    Instr::Unreachable,
+    Instr::Compare(ValType::I32, Comparison::GreaterUnsigned),
+    Instr::Unreachable,
+    Instr::Compare(ValType::I32, Comparison::AtMostSigned),
+    Instr::Unreachable,
+    Instr::Compare(ValType::I32, Comparison::AtMostUnsigned),
+    Instr::Unreachable,
+    Instr::Compare(ValType::I32, Comparison::AtLeastSigned),
+    Instr::Unreachable,
+    Instr::Compare(ValType::I32, Comparison::AtLeastUnsigned),
+    Instr::Unreachable,
+    Instr::Unary(ValType::I32, UnaryOp::CountLeadingZeros),
+    Instr::Unary(ValType::I32, UnaryOp::CountTrailingZeros),
+    Instr::Unary(ValType::I32, UnaryOp::CountOnes),
+    Instr::Unreachable,
+    Instr::Binary(ValType::I32, BinaryOp::Add),
+    Instr::Binary(ValType::I32, BinaryOp::Subtract),
+    Instr::Binary(ValType::I32, BinaryOp::Multiply),
+    Instr::Binary(ValType::I32, BinaryOp::DivideSigned),
+    Instr::Binary(ValType::I32, BinaryOp::DivideUnsigned),
+    Instr::Binary(ValType::I32, BinaryOp::RemainderSigned),
+    Instr::Binary(ValType::I32, BinaryOp::RemainderUnsigned),
+    Instr::Binary(ValType::I32, BinaryOp::And),
+    Instr::Binary(ValType::I32, BinaryOp::Or),
+    Instr::Binary(ValType::I32, BinaryOp::Xor),
+    Instr::Binary(ValType::I32, BinaryOp::ShiftLeft),
+    Instr::Binary(ValType::I32, BinaryOp::ShiftRightSigned),
+    Instr::Binary(ValType::I32, BinaryOp::ShiftRightUnsigned),
+    Instr::Binary(ValType::I32, BinaryOp::RotateLeft),
+    Instr::Binary(ValType::I32, BinaryOp::RotateRight),
+    Instr::Unreachable,
+    Instr::IsZero(ValType::I64),
+    Instr::Unreachable,
+    Instr::Compare(ValType::I64, Comparison::Equal),
+    Instr::Unreachable,
+    Instr::Compare(ValType::I64, Comparison::NotEqual),
+    Instr::Unreachable,
+    Instr::Compare(ValType::I64, Comparison::LessSigned),
+    Instr::Unreachable,
+    Instr::Compare(ValType::I64, Comparison::LessUnsigned),
+    Instr::Unreachable,
+    Instr::Compare(ValType::I64, Comparison::GreaterSigned),
+    Instr::Unreachable,
+    Instr::Compare(ValType::I64, Comparison::GreaterUnsigned),
+    Instr::Unreachable,
+    Instr::Compare(ValType::I64, Comparison::AtMostSigned),
+    Instr::Unreachable,
+    Instr::Compare(ValType::I64, Comparison::AtMostUnsigned),
+    Instr::Unreachable,
+    Instr::Compare(ValType::I64, Comparison::AtLeastSigned),
+    Instr::Unreachable,
+    Instr::Compare(ValType::I64, Comparison::AtLeastUnsigned),
+    Instr::Unreachable,
+    Instr::Unary(ValType::I64, UnaryOp::CountLeadingZeros),
+    Instr::Unary(ValType::I64, UnaryOp::CountTrailingZeros),
+    Instr::Unary(ValType::I64, UnaryOp::CountOnes),
+    Instr::Unreachable,
+    Instr::Binary(ValType::I64, BinaryOp::Add),
+    Instr::Binary(ValType::I64, BinaryOp::Subtract),
+    Instr::Binary(ValType::I64, BinaryOp::Multiply),
+    Instr::Binary(ValType::I64, BinaryOp::DivideSigned),
+    Instr::Binary(ValType::I64, BinaryOp::DivideUnsigned),
+    Instr::Binary(ValType::I64, BinaryOp::RemainderSigned),
+    Instr::Binary(ValType::I64, BinaryOp::RemainderUnsigned),
+    Instr::Binary(ValType::I64, BinaryOp::And),
+    Instr::Binary(ValType::I64, BinaryOp::Or),
+    Instr::Binary(ValType::I64, BinaryOp::Xor),
+    Instr::Binary(ValType::I64, BinaryOp::ShiftLeft),
+    Instr::Binary(ValType::I64, BinaryOp::ShiftRightSigned),
+    Instr::Binary(ValType::I64, BinaryOp::ShiftRightUnsigned),
+    Instr::Binary(ValType::I64, BinaryOp::RotateLeft),
+    Instr::Binary(ValType::I64, BinaryOp::RotateRight),
+    Instr::Unreachable,
+    Instr::Select,
+    Instr::Unreachable,
+    Instr::Wrap,
+    Instr::ExtendSigned,
+    Instr::Unreachable,
+    Instr::ExtendUnsigned,
+    Instr::Drop,
+    Instr::Return,
+    Instr::Unreachable,
+];
+
+/// A module with that body, an import and a segment of data.
+fn full(alloc: Heap) -> Result<Module, Fail> {
+    let pair = FnType {
+        params: Seq::of(vec![in alloc; ValType::I32, ValType::I64]?),
+        result: None,
+    };
+    let constant = FnType {
+        params: Seq::of(Vec::new(alloc)),
+        result: Some(ValType::I32),
+    };
+    let import = Import {
+        module_name: Bytes::of(Vec::from_slice(alloc, b"env")?),
+        name: Bytes::of(Vec::from_slice(alloc, b"put")?),
+        kind: TypeIndex(1),
+    };
+    let global = Global {
+        kind: ValType::I32,
+        is_mutable: true,
+        init: Seq::of(vec![in alloc; Instr::I32Const(1_048_576)]?),
+    };
+    let groups = [(1, ValType::I32), (1, ValType::I64), (200, ValType::I32)];
+    let mut locals = Vec::new(alloc);
+    for (count, kind) in groups {
+        locals.push(Locals { count, kind })?;
+    }
+    let code = Code {
+        locals: Seq::of(locals),
+        body: Seq::of(Vec::from_slice(alloc, &EVERY_INSTRUCTION)?),
+    };
+    let segment = Segment {
+        place: 1_048_576,
+        bytes: Bytes::of(Vec::from_slice(alloc, b"ab\x00")?),
+    };
+    Ok(Module {
+        types: Seq::of(vec![in alloc; pair, constant]?),
+        imports: Seq::of(vec![in alloc; import]?),
+        functions: Seq::of(vec![in alloc; TypeIndex(0)]?),
+        memories: Seq::of(vec![in alloc; Memory { min_pages: 17 }]?),
+        globals: Seq::of(vec![in alloc; global]?),
+        exports: Seq::of(Vec::new(alloc)),
+        codes: Seq::of(vec![in alloc; code]?),
+        data: Seq::of(vec![in alloc; segment]?),
+    })
 }
 
 #[test]
@@ -67,6 +257,12 @@ fn encodes_known_modules(rt: HostRuntime) -> Result<(), Fail> {
     encode(alloc, &wide(alloc)?, &mut into)?;
     let wanted: &[u8] =
         b"\x00asm\x01\x00\x00\x00\x01\x06\x01\x60\x02\x7f\x7e\x00\x03\x02\x01\x00\x05\x04\x01\x00\x80\x01\x06\x06\x01\x7e\x00\x41\x7f\x0b\x07\x08\x01\x03a b\x00\x82\x01\x0a\x0b\x01\x09\x02\xac\x02\x7f\x01\x7e\x0f\x0b\x0b";
+    assert_eq!(rt; into.as_slice(), wanted);
+
+    let mut into = ByteBuf::with_room(alloc, 0)?;
+    encode(alloc, &full(alloc)?, &mut into)?;
+    let wanted: &[u8] =
+        b"\x00\x61\x73\x6d\x01\x00\x00\x00\x01\x0a\x02\x60\x02\x7f\x7e\x00\x60\x00\x01\x7f\x02\x0b\x01\x03\x65\x6e\x76\x03\x70\x75\x74\x00\x01\x03\x02\x01\x00\x05\x03\x01\x00\x11\x06\x09\x01\x7f\x01\x41\x80\x80\xc0\x00\x0b\x0a\xbe\x01\x01\xbb\x01\x03\x01\x7f\x01\x7e\xc8\x01\x7f\x00\x02\x40\x0c\x00\x0b\x03\x7f\x00\x0b\x04\x7f\x41\x7f\x05\x41\xc0\x00\x0b\x1a\x20\xc8\x01\x21\x00\x00\x22\x02\x24\x00\x23\x00\x1a\x00\x20\x00\x28\x00\x00\x1a\x20\x00\x29\x00\xac\x02\x1a\x20\x00\x2c\x00\x01\x1a\x20\x00\x2d\x00\x02\x1a\x20\x00\x2e\x00\x03\x1a\x20\x00\x2f\x00\x04\x1a\x00\x36\x00\x00\x37\x00\xac\x02\x3a\x00\x01\x3b\x00\x02\x45\x00\x46\x00\x47\x00\x48\x00\x49\x00\x4a\x00\x4b\x00\x4c\x00\x4d\x00\x4e\x00\x4f\x00\x67\x68\x69\x00\x6a\x6b\x6c\x6d\x6e\x6f\x70\x71\x72\x73\x74\x75\x76\x77\x78\x00\x50\x00\x51\x00\x52\x00\x53\x00\x54\x00\x55\x00\x56\x00\x57\x00\x58\x00\x59\x00\x5a\x00\x79\x7a\x7b\x00\x7c\x7d\x7e\x7f\x80\x81\x82\x83\x84\x85\x86\x87\x88\x89\x8a\x00\x1b\x00\xa7\xac\x00\xad\x1a\x0f\x00\x0b\x0b\x0c\x01\x00\x41\x80\x80\xc0\x00\x0b\x03\x61\x62\x00";
     assert_eq!(rt; into.as_slice(), wanted);
     Ok(())
 }

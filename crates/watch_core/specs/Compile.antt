@@ -21,7 +21,7 @@ use Rattle.wasm_form.specs.declared.module.Global.{Global}
 use Rattle.wasm_form.specs.declared.module.Export.{Export}
 use Rattle.wasm_form.specs.declared.module.Code.{Code}
 use Rattle.wasm_form.specs.declared.module.ValType.TheVariants.{I32}
-use Rattle.wasm_form.specs.declared.module.Instr.TheVariants.{Return, I32Const}
+use Rattle.wasm_form.specs.declared.instr.Instr.TheVariants.{Return, I32Const}
 use Rattle.wasm_form.specs.declared.module.Exported.TheVariants as exported
 use Rattle.wasm_form.specs.Binary.{module_bytes}
 use Rattle.zir_astgen.specs.Calls.{builtin_faults}
@@ -53,11 +53,13 @@ exports_from index (f ∷ fs) = record { name = f.name; what = exported.Function
 abbrev pub linked : List ConstFunction → Module
 linked fs = record {
   types = types_of fs;
+  imports = [];
   functions = map (λ _. record { 0 = 0 }) fs;
   memories = record { min_pages = 16 } ∷ [];
   globals = stack_pointer ∷ [];
   exports = record { name = codes "memory"; what = exported.Memory 0 } ∷ exports_from 0 fs;
   codes = map code_of fs;
+  data = [];
 }
 
 -- What a compilation gives: diagnostics of the files before any unit is analysed; diagnostics of the linker

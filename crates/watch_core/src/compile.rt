@@ -241,11 +241,13 @@ fn module_of(alloc: Global, f: ConstFn<'_>) -> Result<Module, AllocError>
     };
     Ok(Module {
         types: Seq::of(vec![in alloc; constant]?),
+        imports: Seq::of(Vec::new(alloc)),
         functions: Seq::of(vec![in alloc; TypeIndex(0)]?),
         memories: Seq::of(vec![in alloc; memory]?),
         globals: Seq::of(vec![in alloc; stack_pointer(alloc)?]?),
         exports: exports(alloc, f.name)?,
         codes: Seq::of(vec![in alloc; code_of(alloc, f.value)?]?),
+        data: Seq::of(Vec::new(alloc)),
     })
 }
 
