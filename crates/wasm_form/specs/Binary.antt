@@ -147,4 +147,4 @@ module_bytes m =
     ++ section_bytes 6 global_bytes m.globals
     ++ section_bytes 7 export_bytes m.exports
     ++ section_bytes 10 code_bytes m.codes
-    ++ section_bytes 11 segment_bytes m.data
+    ++ section_bytes 11 segment_bytes m.segments

@@ -61,7 +61,7 @@ fn put_sections(alloc: Global, m: &Module, out: &mut ByteBuf) -> Result<(), Allo
     put_section(alloc, 6, m.globals.as_slice(), out)?;
     put_section(alloc, 7, m.exports.as_slice(), out)?;
     put_section(alloc, 10, m.codes.as_slice(), out)?;
-    put_section(alloc, 11, m.data.as_slice(), out)
+    put_section(alloc, 11, m.segments.as_slice(), out)
 }
 
 /// Appends a section, unless it has no entry.

@@ -90,5 +90,5 @@ pub struct Module {
     pub exports: Seq<Export>,
     /// The codes of `functions`, in their order.
     pub codes: Seq<Code>,
-    pub data: Seq<Segment>,
+    pub segments: Seq<Segment>,
 }

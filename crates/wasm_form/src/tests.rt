@@ -43,7 +43,7 @@ fn wide(alloc: Heap) -> Result<Module, Fail> {
         globals: Seq::of(vec![in alloc; global]?),
         exports: Seq::of(vec![in alloc; export]?),
         codes: Seq::of(vec![in alloc; code]?),
-        data: Seq::of(Vec::new(alloc)),
+        segments: Seq::of(Vec::new(alloc)),
     })
 }
 
@@ -56,7 +56,7 @@ fn empty(alloc: Heap) -> Module {
         globals: Seq::of(Vec::new(alloc)),
         exports: Seq::of(Vec::new(alloc)),
         codes: Seq::of(Vec::new(alloc)),
-        data: Seq::of(Vec::new(alloc)),
+        segments: Seq::of(Vec::new(alloc)),
     }
 }
 
@@ -242,7 +242,7 @@ fn full(alloc: Heap) -> Result<Module, Fail> {
         globals: Seq::of(vec![in alloc; global]?),
         exports: Seq::of(Vec::new(alloc)),
         codes: Seq::of(vec![in alloc; code]?),
-        data: Seq::of(vec![in alloc; segment]?),
+        segments: Seq::of(vec![in alloc; segment]?),
     })
 }
 

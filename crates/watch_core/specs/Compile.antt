@@ -59,7 +59,7 @@ linked fs = record {
   globals = stack_pointer ∷ [];
   exports = record { name = codes "memory"; what = exported.Memory 0 } ∷ exports_from 0 fs;
   codes = map code_of fs;
-  data = [];
+  segments = [];
 }
 
 -- What a compilation gives: diagnostics of the files before any unit is analysed; diagnostics of the linker

@@ -247,7 +247,7 @@ fn module_of(alloc: Global, f: ConstFn<'_>) -> Result<Module, AllocError>
         globals: Seq::of(vec![in alloc; stack_pointer(alloc)?]?),
         exports: exports(alloc, f.name)?,
         codes: Seq::of(vec![in alloc; code_of(alloc, f.value)?]?),
-        data: Seq::of(Vec::new(alloc)),
+        segments: Seq::of(Vec::new(alloc)),
     })
 }
 
