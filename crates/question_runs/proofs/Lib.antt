@@ -1,2 +1,5 @@
 pub mod RunSteps
 pub mod RunParts
+pub mod GrowingRuns
+pub mod GrowingRounds
+pub mod TogetherRounds

@@ -1,8 +1,8 @@
 -- What an update keeps for the next one, and what of it is as it was.
 use Rattle.std.specs.Prelude.{◌≡◌, ◌≢◌, ℕ, List, [], ◌⊎◌, Some, None}
 use Rattle.std.specs.List.{Contains}
-use Rattle.question_runs.specs.Runs.{Run}
-use Rattle.question_runs.specs.Rounds.{Language, Asks, WasGiven, result_of, round, run_at, Demanded}
+use Rattle.question_runs.specs.Runs.{Run, Asks, WasGiven}
+use Rattle.question_runs.specs.Rounds.{Language, result_of, round, run_at, Demanded}
 
 -- a kept unit: its result, and its run, which is its trace with the units that it referred to
 pub record KeptUnit (Q A U R : Type 0) : Type 0 where

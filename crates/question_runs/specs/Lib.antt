@@ -2,4 +2,5 @@ pub mod Programs
 pub mod Runs
 pub mod RunLaws
 pub mod Rounds
+pub mod RoundLaws
 pub mod Kept

@@ -21,22 +21,6 @@ pub record Language (Q A U R : Type 0) : Type 0 where
   -- whether two units are one
   pub same_unit : U → U → Bool
 
--- whether the run asks the question, one that it stops at among them
-abbrev pub Asks : {Q A U R : Type 0} → Run Q A U R → Q → Type 0
-Asks (ends r) q = ⊥
-Asks fails q = ⊥
-Asks (stops p) q = p ≡ q
-Asks (goes (asked p a) r) q = (p ≡ q) ⊎ Asks r q
-Asks (goes (referred u) r) q = Asks r q
-
--- whether the run was given the answer to the question
-abbrev pub WasGiven : {Q A U R : Type 0} → Run Q A U R → Q → A → Type 0
-WasGiven (ends r) q a = ⊥
-WasGiven fails q a = ⊥
-WasGiven (stops p) q a = ⊥
-WasGiven (goes (asked p b) r) q a = ((p ≡ q) × (b ≡ a)) ⊎ WasGiven r q a
-WasGiven (goes (referred u) r) q a = WasGiven r q a
-
 -- the answer to a question: of the files, or the result of the unit that it asks for
 abbrev pub answer_by : {A U R : Type 0} → A → (R → A) → (U → Option R) → Option U → Option A
 answer_by of_files answer_of results None = Some of_files

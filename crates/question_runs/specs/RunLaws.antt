@@ -1,7 +1,7 @@
 -- What holds of the run of every program, whatever it asks. Q are questions, A answers, U units and R results.
 use Rattle.std.specs.Prelude.{◌≡◌, true, List, [], ◌∷◌, ◌++◌, ◌↔◌, Option, Some, None, ⊤}
 use Rattle.question_runs.specs.Programs.{Prog, bind}
-use Rattle.question_runs.specs.Runs.{Move, asked, referred, Run, ends, fails, stops, goes, Setting, recall, unless, run, nothing, behind, IsOver, Answers, Gives, IsRunOf}
+use Rattle.question_runs.specs.Runs.{Move, asked, referred, Run, ends, fails, stops, goes, Setting, recall, unless, run, nothing, behind, Asks, IsOver, Answers, Gives, IsRunOf}
 
 -- whoever has the answers of one has them of the other
 abbrev pub Lower : {Q A : Type 0} → (Q → Option A) → (Q → Option A) → Type 0
@@ -25,6 +25,13 @@ AsksFirst fails q = ⊥
 AsksFirst (stops p) q = p ≡ q
 AsksFirst (goes (asked p a) r) q = p ≡ q
 AsksFirst (goes (referred u) r) q = ⊥
+
+-- the later run makes the moves of the earlier one, and goes on where that one stops for want of an answer
+abbrev pub Continues : {Q A U R : Type 0} → Run Q A U R → Run Q A U R → Type 0
+Continues (ends r) later = later ≡ ends r
+Continues fails later = later ≡ fails
+Continues (stops q) later = AsksFirst later q
+Continues {Q} {A} {U} {R} (goes m r) later = (rest : Run Q A U R) × ((later ≡ goes m rest) × Continues r rest)
 
 -- no question of the run was asked among these moves, or earlier in the run
 abbrev pub AsksAnew : {Q A U R : Type 0} → Setting Q A → List (Move Q A U) → Run Q A U R → Type 0
@@ -54,6 +61,10 @@ module _ (Q A U R : Type 0) where
   -- more answers keep a run that is over
   abbrev pub MoreAnswers : Type 0
   MoreAnswers = (s : Setting Q A) (p : Prog Q A U R) (moves : List (Move Q A U)) (few more : Q → Option A) → Lower few more → IsOver (run s few moves p) → run s more moves p ≡ run s few moves p
+
+  -- a run goes on in the moves of another, where each answer that it has at hand to a question of that one is the other's too
+  abbrev pub OtherAnswers : Type 0
+  OtherAnswers = (s : Setting Q A) (p : Prog Q A U R) (moves : List (Move Q A U)) (few more : Q → Option A) → ((q : Q) (a : A) → Asks (run s more moves p) q → few q ≡ Some a → more q ≡ Some a) → Continues (run s few moves p) (run s more moves p)
 
   -- as far as the answers of a run are at hand, the program makes the same moves; then it asks the same question
   abbrev pub FirstParts : Type 0

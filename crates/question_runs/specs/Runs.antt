@@ -1,5 +1,5 @@
 -- Runs: what a program does with given answers, move by move, up to its end or to the first question without an answer.
-use Rattle.std.specs.Prelude.{◌≡◌, Bool, true, false, List, [], ◌∷◌, ◌++◌, Option, Some, None, if◌then◌else◌, ⊤}
+use Rattle.std.specs.Prelude.{◌≡◌, Bool, true, false, List, [], ◌∷◌, ◌++◌, ◌⊎◌, Option, Some, None, if◌then◌else◌, ⊤}
 use Rattle.question_runs.specs.Programs.{Prog, done, ask, refer}
 
 -- one thing that a program has done: it was answered a question, or it referred to a unit
@@ -72,6 +72,22 @@ stop_of (ends r) = None
 stop_of fails = None
 stop_of (stops q) = Some q
 stop_of (goes m r) = stop_of r
+
+-- whether the run asks the question, one that it stops at among them
+abbrev pub Asks : {Q A U R : Type 0} → Run Q A U R → Q → Type 0
+Asks (ends r) q = ⊥
+Asks fails q = ⊥
+Asks (stops p) q = p ≡ q
+Asks (goes (asked p a) r) q = (p ≡ q) ⊎ Asks r q
+Asks (goes (referred u) r) q = Asks r q
+
+-- whether the run was given the answer to the question
+abbrev pub WasGiven : {Q A U R : Type 0} → Run Q A U R → Q → A → Type 0
+WasGiven (ends r) q a = ⊥
+WasGiven fails q a = ⊥
+WasGiven (stops p) q a = ⊥
+WasGiven (goes (asked p b) r) q a = ((p ≡ q) × (b ≡ a)) ⊎ WasGiven r q a
+WasGiven (goes (referred u) r) q a = WasGiven r q a
 
 -- a run that is over, with a result or by an answer that fails it
 abbrev pub IsOver : {Q A U R : Type 0} → Run Q A U R → Type 0

@@ -8,13 +8,15 @@
 //! The crate stands on nothing.
 #![tactic(auto)]
 
-ghost use Rattle.question_runs.specs.RunLaws.{RunsHonestly, RunsByAnswers, MoreAnswers, FirstParts, TracesLead, OneTurn, OneThenAnother};
+ghost use Rattle.question_runs.specs.RunLaws.{RunsHonestly, RunsByAnswers, MoreAnswers, OtherAnswers, FirstParts, TracesLead, OneTurn, OneThenAnother};
+ghost use Rattle.question_runs.specs.RoundLaws.{RoundsGrow, RoundRunsGrow, RoundsTogether};
 
 /// The answers of a run are those at hand, and a run depends on them alone.
 pub fn runs_by_answers<Question, Answer, Unit, Outcome>()
     ensures honest { RunsHonestly Question Answer Unit Outcome }
     ensures by_answers { RunsByAnswers Question Answer Unit Outcome }
     ensures more_answers { MoreAnswers Question Answer Unit Outcome }
+    ensures other_answers { OtherAnswers Question Answer Unit Outcome }
 {}
 
 /// A part of a run from its beginning says what comes next, whatever else has changed.
@@ -27,4 +29,11 @@ pub fn runs_by_traces<Question, Answer, Unit, Outcome>()
 pub fn runs_by_parts<Question, Answer, Unit, Outcome, Last>()
     ensures one_turn { OneTurn Question Answer Unit Outcome }
     ensures one_then_another { OneThenAnother Question Answer Unit Outcome Last }
+{}
+
+/// A result that a round gives stays, and all rounds together are one function of results.
+pub fn results_by_rounds<Question, Answer, Unit, Outcome>()
+    ensures grow { RoundsGrow Question Answer Unit Outcome }
+    ensures runs_grow { RoundRunsGrow Question Answer Unit Outcome }
+    ensures together { RoundsTogether Question Answer Unit Outcome }
 {}

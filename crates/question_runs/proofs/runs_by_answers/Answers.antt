@@ -1,4 +1,5 @@
 use Rattle.question_runs.proofs.RunSteps.{Answers-run, AsksAnew-run, IsRunOf-run, run-IsRunOf, run-more}
+use Rattle.question_runs.proofs.GrowingRuns.{continues-run}
 use Rattle.question_runs.proofs.runs_by_answers.Goals as goal
 
 pub returns-clause-honest : goal.returns-clause-honest
@@ -9,3 +10,6 @@ returns-clause-by_answers g c = λ s p r given. (λ w. IsRunOf-run s given p r w
 
 pub returns-clause-more_answers : goal.returns-clause-more_answers
 returns-clause-more_answers g c = λ s p moves few more up over. run-more s few more p moves up over
+
+pub returns-clause-other_answers : goal.returns-clause-other_answers
+returns-clause-other_answers g c = λ s p moves few more w. continues-run s few more p moves w
