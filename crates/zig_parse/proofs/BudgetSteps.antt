@@ -26,6 +26,7 @@ use Rattle.zig_parse.proofs.Tracking.{Tracked}
 use Rattle.zig_parse.proofs.Following.{Looks, alone_path, looks_here, looks_next, state_live, step_path}
 use Rattle.zig_parse.proofs.Grounds.{Grounded, Grounds, base_of, depth_in, has_room, next_grounds}
 use Rattle.zig_parse.proofs.Budgets.{Rested, rested_low}
+use Rattle.zig_tree.specs.declared.tree.TheConstants.{DEPTH_LIMIT}
 
 -- ---- the tokens of a path
 
@@ -54,7 +55,7 @@ file_rested x live waiting e none goal g =
 
 -- where the first pass accepts all of them the tree has no more nodes one in the other than the limit
 pub accepted_low : (low : ℕ → Type 0) → ((n : ℕ) → low (n + 1) → low n) → (top total n at : ℕ) (tokens : List Token) (s : State) (marks found : List Bool) (ds : List ℕ) (forks : List Fork) (kinds : List TokenKind)
-    → Tracked low top total at kinds s.live s.waiting ds forks → length kinds ≡ n → Looks tokens at n kinds → surveyed n at tokens s marks ≡ Ok found → Grounds s.live s.waiting → top ≤ 200
+    → Tracked low top total at kinds s.live s.waiting ds forks → length kinds ≡ n → Looks tokens at n kinds → surveyed n at tokens s marks ≡ Ok found → Grounds s.live s.waiting → top ≤ DEPTH_LIMIT
 unfolding surveyed next_verdict
 accepted_low low falls top total n at tokens s marks found ds forks [] t l looks h c = absurd (let less = t.shorter in omega (arith, less))
 accepted_low low falls top total zero at tokens s marks found ds forks (k ∷ more) t l looks h c = absurd (omega (arith, l))

@@ -25,13 +25,14 @@ use Rattle.zig_parse.proofs.Picks.{choices_as, parts_in}
 use Rattle.zig_parse.proofs.CostTables.{cost_of, cost_of_rule, front_cost, group_costs, has_some, may_be_empty, may_be_nothing, pairs_fit, row_fits, rows_fit, rule_cost_small, rule_costs}
 use Rattle.zig_parse.proofs.Costs.{IsFront, group_front_at, part_not_close, rule_front}
 use Rattle.zig_parse.proofs.Moving.{Each, spread_each}
+use Rattle.zig_tree.specs.declared.tree.TheConstants.{DEPTH_LIMIT}
 
 -- ---- what is kept
 
 -- open nodes in a node of some depth, the innermost of them at this one
 abbrev pub Within : ℕ → ℕ → List Frame → Type 0
 Within base depth [] = depth ≡ base
-Within base depth (f ∷ fs) = (f.height ≤ 200 - depth) × (count f.solid ≤ depth) × Within base (depth - count f.solid) fs
+Within base depth (f ∷ fs) = (f.height ≤ DEPTH_LIMIT - depth) × (count f.solid ≤ depth) × Within base (depth - count f.solid) fs
 
 -- nodes were opened at this token: what comes first costs no more than the limit leaves
 pub record Opened (t : Thread) : Type 0 where
@@ -46,21 +47,21 @@ abbrev pub Held : ℕ → Thread → Type 0
 Held base t = t.deep ≡ false → Within base t.depth t.frames
 
 abbrev pub Rested : ℕ → Thread → Type 0
-Rested base t = t.deep ≡ false → (t.depth ≤ 200) × Within base t.depth t.frames
+Rested base t = t.deep ≡ false → (t.depth ≤ DEPTH_LIMIT) × Within base t.depth t.frames
 
 abbrev pub Moved : ℕ → Thread → Type 0
-Moved base t = t.deep ≡ false → Within base t.depth t.frames × ((t.depth ≤ 200) ⊎ Opened t)
+Moved base t = t.deep ≡ false → Within base t.depth t.frames × ((t.depth ≤ DEPTH_LIMIT) ⊎ Opened t)
 
 -- ---- a node is closed
 
-gained_within : (base depth h : ℕ) (fs : List Frame) → h ≤ 200 - depth → Within base depth fs → Within base depth (gained h fs)
+gained_within : (base depth h : ℕ) (fs : List Frame) → h ≤ DEPTH_LIMIT - depth → Within base depth fs → Within base depth (gained h fs)
 gained_within base depth h [] l w = w
 gained_within base depth h (f ∷ fs) l w = (omega (arith, w.0), w.1, w.2)
 
-closed_within : (base depth : ℕ) (f : Frame) (fs : List Frame) → depth ≤ 200 → Within base depth (f ∷ fs) → Within base (depth - count f.solid) (gained (part_height f) fs)
+closed_within : (base depth : ℕ) (f : Frame) (fs : List Frame) → depth ≤ DEPTH_LIMIT → Within base depth (f ∷ fs) → Within base (depth - count f.solid) (gained (part_height f) fs)
 closed_within base depth f fs d w = gained_within base (depth - count f.solid) (part_height f) fs (by f.solid w.0 w.1) w.2
   where
-    by : (b : Bool) → f.height ≤ 200 - depth → count b ≤ depth → (if b then one_more f.height else f.height) ≤ 200 - (depth - count b)
+    by : (b : Bool) → f.height ≤ DEPTH_LIMIT - depth → count b ≤ depth → (if b then one_more f.height else f.height) ≤ DEPTH_LIMIT - (depth - count b)
     by true h c = omega arith
     by false h c = omega arith
 
@@ -68,7 +69,7 @@ pub less_one : (b : Bool) (d : ℕ) → (if b then d - 1 else d) ≡ d - count b
 less_one true d = refl
 less_one false d = omega arith
 
-closed_by : (base : ℕ) (t : Thread) (fs : List Frame) → t.frames ≡ fs → t.depth ≤ 200 → Within base t.depth fs → ((closed_from t fs).depth ≤ 200) × Within base (closed_from t fs).depth (closed_from t fs).frames
+closed_by : (base : ℕ) (t : Thread) (fs : List Frame) → t.frames ≡ fs → t.depth ≤ DEPTH_LIMIT → Within base t.depth fs → ((closed_from t fs).depth ≤ DEPTH_LIMIT) × Within base (closed_from t fs).depth (closed_from t fs).frames
 closed_by base t [] e d w = (d, subst (Within base t.depth) (sym e) w)
 closed_by base t (f ∷ fs) e d w =
     let one = less_one f.solid t.depth in
@@ -78,7 +79,7 @@ closed_deep : (t : Thread) (fs : List Frame) → (closed_from t fs).deep ≡ t.d
 closed_deep t [] = refl
 closed_deep t (f ∷ fs) = refl
 
-closed_moved : (base : ℕ) (t : Thread) → (t.deep ≡ false → (t.depth ≤ 200) × Within base t.depth t.frames) → Moved base (closed t)
+closed_moved : (base : ℕ) (t : Thread) → (t.deep ≡ false → (t.depth ≤ DEPTH_LIMIT) × Within base t.depth t.frames) → Moved base (closed t)
 unfolding closed
 closed_moved base t h d =
     let now = h (sym (closed_deep t t.frames) ∙ d) in
@@ -95,14 +96,14 @@ or_right : (x y : Bool) → (x || y) ≡ false → y ≡ false
 or_right true y h = absurd (cc)
 or_right false y h = h
 
-not_deep : (depth height : ℕ) → is_deep depth height ≡ false → depth + height ≤ 200
+not_deep : (depth height : ℕ) → is_deep depth height ≡ false → depth + height ≤ DEPTH_LIMIT
 unfolding is_deep
-not_deep depth height h = let l = ltb-false 200 (min (depth + height) (2 ^ 32 - 1)) h in omega (arith, l)
+not_deep depth height h = let l = ltb-false DEPTH_LIMIT (min (depth + height) (2 ^ 32 - 1)) h in omega (arith, l)
 
 -- what is known once the innermost node is one
 record Hard (base : ℕ) (t u : Thread) : Type 0 where
   within : Within base u.depth u.frames
-  room : u.depth ≤ 200
+  room : u.depth ≤ DEPTH_LIMIT
   deeper : u.depth ≡ t.depth + 1
   shallow : t.deep ≡ false
 
@@ -140,19 +141,19 @@ met_within base r t (f ∷ fs) e h d0 = by f.solid refl (nat_lt 0 f.parts || is_
 
 -- ---- a token is read
 
-gain_within : (base : ℕ) (t : Thread) → (t.depth ≤ 200) × Within base t.depth t.frames → ((with_gain 0 t).depth ≤ 200) × Within base (with_gain 0 t).depth (with_gain 0 t).frames
+gain_within : (base : ℕ) (t : Thread) → (t.depth ≤ DEPTH_LIMIT) × Within base t.depth t.frames → ((with_gain 0 t).depth ≤ DEPTH_LIMIT) × Within base (with_gain 0 t).depth (with_gain 0 t).frames
 gain_within base t (d, w) = (d, gained_within base t.depth 0 t.frames (omega arith) w)
 
-touched_within : (base : ℕ) → base ≤ 200 → (t : Thread) (fs : List Frame) → t.frames ≡ fs → Held base t → (touched_from t fs).deep ≡ false → ((touched_from t fs).depth ≤ 200) × Within base (touched_from t fs).depth (touched_from t fs).frames
+touched_within : (base : ℕ) → base ≤ DEPTH_LIMIT → (t : Thread) (fs : List Frame) → t.frames ≡ fs → Held base t → (touched_from t fs).deep ≡ false → ((touched_from t fs).depth ≤ DEPTH_LIMIT) × Within base (touched_from t fs).depth (touched_from t fs).frames
 touched_within base low t [] e h d = let w = h d in (let none : t.depth ≡ base = subst (Within base t.depth) e w in omega (arith, none), w)
 touched_within base low t (f ∷ fs) e h d0 = by f.solid refl d0
   where
     by : (x : Bool) → f.solid ≡ x → (if x then record t { deep = t.deep || is_deep t.depth 0 } else hardened f t).deep ≡ false
-        → ((if x then record t { deep = t.deep || is_deep t.depth 0 } else hardened f t).depth ≤ 200) × Within base (if x then record t { deep = t.deep || is_deep t.depth 0 } else hardened f t).depth (if x then record t { deep = t.deep || is_deep t.depth 0 } else hardened f t).frames
+        → ((if x then record t { deep = t.deep || is_deep t.depth 0 } else hardened f t).depth ≤ DEPTH_LIMIT) × Within base (if x then record t { deep = t.deep || is_deep t.depth 0 } else hardened f t).depth (if x then record t { deep = t.deep || is_deep t.depth 0 } else hardened f t).frames
     by true s d = (omega (arith, not_deep t.depth 0 (or_right t.deep (is_deep t.depth 0) d)), h (or_left t.deep (is_deep t.depth 0) d))
     by false s d = (let hard = hard_within base f t fs e s h d in (hard.room, hard.within))
 
-pub read_rested : (base : ℕ) → base ≤ 200 → (t : Thread) → Moved base t → Rested base (after_read t)
+pub read_rested : (base : ℕ) → base ≤ DEPTH_LIMIT → (t : Thread) → Moved base t → Rested base (after_read t)
 unfolding after_read
 read_rested base low t h d = gain_within base (touched_from (passed t) t.frames) (touched_within base low (passed t) t.frames refl (λ e. (h e).0) d)
 
@@ -213,7 +214,7 @@ or_yes false h = absurd (cc)
 first_of : (n : ℕ) (p : Part) (ps : List Part) (later l : List Item) (i : Item) (is : List Item) → l ≡ map (item n) (p ∷ ps) ++ later → l ≡ i ∷ is → (i ≡ item n p) × (is ≡ map (item n) ps ++ later)
 first_of n p ps later l i is e f = (cc, cc)
 
-rule_room : (look : Look) (t : Thread) (r : Rule) → (f : IsFront (length t.frames) t.items (part.Rule r)) → (t.depth ≤ 200) ⊎ Opened t → t.depth + 2 * cost_of_rule r ≤ 260
+rule_room : (look : Look) (t : Thread) (r : Rule) → (f : IsFront (length t.frames) t.items (part.Rule r)) → (t.depth ≤ DEPTH_LIMIT) ⊎ Opened t → t.depth + 2 * cost_of_rule r ≤ 260
 rule_room look t r f (inl d) = let small = ltb-true (cost_of_rule r) 30 (rule_cost_small r) in omega arith
 rule_room look t r f (inr o) = by o.ps o.items o.some o.fits
   where
@@ -357,14 +358,14 @@ moving_moved base look at t k = moving_by_moved base look at t (next_move look t
 
 -- ---- nodes are closed in the end
 
-risen_low : (base : ℕ) (fs : List Frame) (h depth : ℕ) → depth + h ≤ 200 → Within base depth fs → risen h fs ≤ 200
+risen_low : (base : ℕ) (fs : List Frame) (h depth : ℕ) → depth + h ≤ DEPTH_LIMIT → Within base depth fs → risen h fs ≤ DEPTH_LIMIT
 unfolding risen
 risen_low base [] h depth l w = omega arith
 risen_low base (f ∷ fs) h depth l w = risen_low base fs (part_height (with_part h f)) (depth - count f.solid) (by f.solid w.0 w.1) w.2
   where
-    by : (b : Bool) → f.height ≤ 200 - depth → count b ≤ depth → depth - count b + (if b then one_more (max f.height h) else max f.height h) ≤ 200
+    by : (b : Bool) → f.height ≤ DEPTH_LIMIT - depth → count b ≤ depth → depth - count b + (if b then one_more (max f.height h) else max f.height h) ≤ DEPTH_LIMIT
     by true i c = omega arith
     by false i c = omega arith
 
-pub rested_low : (base : ℕ) (t : Thread) → Rested base t → t.deep ≡ false → risen 0 t.frames ≤ 200
+pub rested_low : (base : ℕ) (t : Thread) → Rested base t → t.deep ≡ false → risen 0 t.frames ≤ DEPTH_LIMIT
 rested_low base t h d = let now = h d in risen_low base t.frames 0 t.depth (omega (arith, now.0)) now.1

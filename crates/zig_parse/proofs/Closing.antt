@@ -19,6 +19,7 @@ use Rattle.zig_parse.proofs.Shapes.{count}
 use Rattle.zig_parse.proofs.Spelled.{got_last, spells_more, spells_span, spells_within}
 use Rattle.zig_parse.proofs.Story.{Inside, inside_more, inside_part, inside_some, inside_made, inside_lone}
 use Rattle.zig_parse.proofs.Standing.{Outer, at_root, in_node, outer_more, Standing}
+use Rattle.zig_tree.specs.declared.tree.TheConstants.{DEPTH_LIMIT}
 
 take_front : {A : Type 0} (xs ys : List A) → take (length xs) (xs ++ ys) ≡ xs
 take_front [] ys = refl
@@ -97,7 +98,7 @@ shut_parts tokens at moves parts f others own from depth i k = shut_by tokens pa
 
 -- ---- the node around it
 
-height_as : (f : Frame) (depth own : ℕ) → ((own ≡ 0) × (f.height ≡ 0)) ⊎ (depth + f.height ≤ 200) → 0 < own → part_height f ≡ f.height + count f.solid
+height_as : (f : Frame) (depth own : ℕ) → ((own ≡ 0) × (f.height ≡ 0)) ⊎ (depth + f.height ≤ DEPTH_LIMIT) → 0 < own → part_height f ≡ f.height + count f.solid
 height_as f depth own (inl none) h = absurd (omega (arith, none.0))
 height_as f depth own (inr l) h = by f.solid
   where

@@ -28,6 +28,7 @@ use Rattle.zig_parse.proofs.Tracking.{Tracked}
 use Rattle.zig_parse.proofs.Spared.{last_fine}
 use Rattle.zig_parse.proofs.Answers.{Left, common_front, common_next, first_found, first_look, first_same, found_where, front_length, kind_here, kinds_length, low_step, survey_of, survey_refused}
 use Rattle.zig_parse.proofs.WholeAnswers.{grown_refused, survey_sentence}
+use Rattle.zig_tree.specs.declared.tree.TheConstants.{DEPTH_LIMIT}
 
 -- ---- a token that a path reads while it lies within the limit
 
@@ -130,7 +131,7 @@ none_begins tokens at h refused (w, tree, s, shallow) = deep_no tokens at w tree
 -- ---- the second pass
 
 -- the tree of tokens that the first pass accepts has no more than 200 nodes one in the other
-sentence_low : (tokens : List Token) (marks : List Bool) (tree : Pieces) → survey_of tokens ≡ Ok marks → Sentence (kinds_of tokens) tree → height tree ≤ 200
+sentence_low : (tokens : List Token) (marks : List Bool) (tree : Pieces) → survey_of tokens ≡ Ok marks → Sentence (kinds_of tokens) tree → height tree ≤ DEPTH_LIMIT
 sentence_low tokens marks tree found s =
     let kinds = kinds_of tokens in
     let n = length tokens in

@@ -11,6 +11,7 @@ use Rattle.zig_parse.proofs.Derived.{open_is_row, row_tested}
 use Rattle.zig_parse.proofs.Shapes.{count, row_fills}
 use Rattle.zig_parse.proofs.Tables.{rule_filled}
 use Rattle.zig_parse.proofs.Balance.{reads_some}
+use Rattle.zig_tree.specs.declared.tree.TheConstants.{DEPTH_LIMIT}
 
 -- ---- tokens of pieces
 
@@ -123,13 +124,13 @@ lies_made low at depth r p h = lies_if low at depth (makes_no_node_alone r && is
 
 -- no node lies too deep, or there is none
 abbrev pub IsLow : ℕ → ℕ → ℕ → Type 0
-IsLow depth count_words tall = ((count_words ≡ 0) × (tall ≡ 0)) ⊎ (depth + tall ≤ 200)
+IsLow depth count_words tall = ((count_words ≡ 0) × (tall ≡ 0)) ⊎ (depth + tall ≤ DEPTH_LIMIT)
 
-first_of_node : (depth some : ℕ) (xs ys : List ℕ) → length xs ≡ some → (0 < some → AreShallow (take 1 xs) → depth + 1 ≤ 200) → (some ≡ 0 → AreShallow (take 1 ys) → depth ≤ 200) → AreShallow (take 1 (xs ++ ys)) → depth ≤ 200
+first_of_node : (depth some : ℕ) (xs ys : List ℕ) → length xs ≡ some → (0 < some → AreShallow (take 1 xs) → depth + 1 ≤ DEPTH_LIMIT) → (some ≡ 0 → AreShallow (take 1 ys) → depth ≤ DEPTH_LIMIT) → AreShallow (take 1 (xs ++ ys)) → depth ≤ DEPTH_LIMIT
 first_of_node depth zero xs ys e f g h = g refl (shallow_after xs ys 1 1 (omega arith) h)
 first_of_node depth (suc n) xs ys e f g h = let deeper = f (omega arith) (shallow_left 1 xs ys h) in omega arith
 
-first_low : (depth : ℕ) (p : Pieces) → 0 < words p → AreShallow (take 1 (token_depths depth p)) → depth ≤ 200
+first_low : (depth : ℕ) (p : Pieces) → 0 < words p → AreShallow (take 1 (token_depths depth p)) → depth ≤ DEPTH_LIMIT
 first_low depth nothing l h = absurd (omega arith)
 first_low depth (word k more) l h = h.0
 first_low depth (node r inside more) l h =
@@ -139,7 +140,7 @@ shallow_split : (xs ys : List ℕ) → AreShallow (xs ++ ys) → AreShallow xs �
 shallow_split [] ys h = (tt, h)
 shallow_split (x ∷ xs) ys h = let s = shallow_split xs ys h.1 in ((h.0, s.0), s.1)
 
-low_node : (depth some more tall other : ℕ) → 0 < some → IsLow (depth + 1) some tall → IsLow depth more other → depth + max (tall + 1) other ≤ 200
+low_node : (depth some more tall other : ℕ) → 0 < some → IsLow (depth + 1) some tall → IsLow depth more other → depth + max (tall + 1) other ≤ DEPTH_LIMIT
 low_node depth some more tall other l (inl none) k = absurd (omega (arith, none.0))
 low_node depth some more tall other l (inr h) (inl none) = omega (arith, none.1)
 low_node depth some more tall other l (inr h) (inr k) = omega arith
@@ -152,7 +153,7 @@ all_low depth (node r inside more) f h =
     inr (low_node depth (words inside) (words more) (height inside) (height more) f.0 (all_low (depth + 1) inside f.1 parts.0) (all_low depth more f.2 parts.1))
 
 -- the node that the next token lies in
-pub next_low : (low : ℕ → Type 0) (at depth : ℕ) (p : Pieces) → 0 < words p → Lies low at depth p → low (at + 1) → depth ≤ 200
+pub next_low : (low : ℕ → Type 0) (at depth : ℕ) (p : Pieces) → 0 < words p → Lies low at depth p → low (at + 1) → depth ≤ DEPTH_LIMIT
 next_low low at depth p s h l = first_low depth p s (h 1 (at + 1) refl l)
 
 -- and those that are read
@@ -172,7 +173,7 @@ shallow_both : (xs ys : List ℕ) → AreShallow xs → AreShallow ys → AreSha
 shallow_both [] ys h k = k
 shallow_both (x ∷ xs) ys h k = (h.0, shallow_both xs ys h.1 k)
 
-pub shallow_tree : (depth : ℕ) (p : Pieces) → depth + height p ≤ 200 → AreShallow (token_depths depth p)
+pub shallow_tree : (depth : ℕ) (p : Pieces) → depth + height p ≤ DEPTH_LIMIT → AreShallow (token_depths depth p)
 shallow_tree depth nothing h = tt
 shallow_tree depth (word k more) h = (omega arith, shallow_tree depth more h)
 shallow_tree depth (node r inside more) h = shallow_both (token_depths (depth + 1) inside) (token_depths depth more) (shallow_tree (depth + 1) inside (omega arith)) (shallow_tree depth more (omega arith))

@@ -39,6 +39,7 @@ use Rattle.zig_parse.proofs.Braced.{one_end}
 use Rattle.zig_parse.proofs.Budgets.{Held, Rested, Within, less_one}
 use Rattle.zig_parse.proofs.Firm.{firm_low}
 use Rattle.zig_parse.proofs.Grounds.{AllGrounded, Grounded, Grounds, base_of, depth_in, has_room, same_depth}
+use Rattle.zig_tree.specs.declared.tree.TheConstants.{DEPTH_LIMIT}
 
 -- ---- the fewest tokens
 
@@ -149,7 +150,7 @@ way_same goal tokens end (z ∷ b) a (y ∷ before) after x t e et none dead r =
 -- ---- the least depth
 
 shallow_depth : (t : Thread) → t.deep ≡ false → depth_for t ≡ t.depth
-shallow_depth t h = ap (λ (b : Bool). if b then 200 else t.depth) h
+shallow_depth t h = ap (λ (b : Bool). if b then DEPTH_LIMIT else t.depth) h
 
 least_low : (p : Part) (those : List Thread) (least : ℕ) → least_from None p those ≡ Some least → (before after : List Thread) (t : Thread) → those ≡ before ++ t ∷ after → waits_for t ≡ Some p → t.deep ≡ false → least ≤ t.depth
 least_low p those least h before after t e w shallow =
@@ -163,7 +164,7 @@ ends_depth : (waiting : List (List Thread)) (alive : Part → Bool) (p : Part) (
 ends_depth waiting alive p depth extra end (ends_file _ _) = refl
 ends_depth waiting alive p depth extra end (ends_brace those before after t others _ _ _ around above _ _ _ outer_end e more w own none all_lost least sits) = least
 
-ends_low : (waiting : List (List Thread)) (alive : Part → Bool) (p : Part) (depth extra : ℕ) (end : List TokenKind) → Ends waiting alive p depth extra end → depth ≤ 200
+ends_low : (waiting : List (List Thread)) (alive : Part → Bool) (p : Part) (depth extra : ℕ) (end : List TokenKind) → Ends waiting alive p depth extra end → depth ≤ DEPTH_LIMIT
 ends_low waiting alive p depth extra end (ends_file _ _) = omega arith
 ends_low waiting alive p depth extra end (ends_brace those before after t others _ _ _ around above _ _ _ outer_end e more w own none all_lost least sits) =
     let l = least_low p those depth least before after t e w sits.shallow in
@@ -219,7 +220,7 @@ within_room extra base t w (inl none) =
     subst (λ (k : ℕ). Within k (t.depth + extra) t.frames) m (subst (λ (k : ℕ). Within base k t.frames) n w)
 within_room extra base t w (inr room) = within_more extra base t.depth t.frames w room.1
 
-room_low : (extra : ℕ) (t : Thread) → t.depth ≤ 200 → HasRoom extra t → t.depth + extra ≤ 200
+room_low : (extra : ℕ) (t : Thread) → t.depth ≤ DEPTH_LIMIT → HasRoom extra t → t.depth + extra ≤ DEPTH_LIMIT
 room_low extra t l (inl none) = omega (arith, none, l)
 room_low extra t l (inr room) = room.0
 

@@ -21,6 +21,7 @@ use Rattle.zig_parse.proofs.Settling.{Dead, chosen_with}
 use Rattle.zig_parse.proofs.Living.{Around, in_brace, Good, Gone, Readable, read_gone, read_dead, begun_gone}
 use Rattle.zig_parse.proofs.Tracking.{Tracked, AtToken, Readied, readied}
 use Rattle.zig_parse.proofs.Entering.{each_front, each_both, waits_no, none_wait, one_waits, those_at, those_each, met_good, met_dead, met_waits, met_choices, least_in, it_wants, inside_each, inside_at, reads_on}
+use Rattle.zig_tree.specs.declared.tree.TheConstants.{DEPTH_LIMIT}
 
 -- what is said of depth at a token was said of the earlier ones
 pub falls_far : (low : ℕ → Type 0) → ((n : ℕ) → low (n + 1) → low n) → (m n : ℕ) → low (m + n) → low m
@@ -113,7 +114,7 @@ record Hears (low : ℕ → Type 0) (at depth around_depth : ℕ) (told : Bool) 
   holds : heard ≡ true → (told ≡ true) × (depth ≤ around_depth)
   hears : (heard ≡ true) ⊎ (low (at + 1) → ⊥)
 
-hear : (low : ℕ → Type 0) → ((n : ℕ) → low (n + 1) → low n) → (at depth around_depth : ℕ) (told deep : Bool) → (told ≡ true) ⊎ (low at → ⊥) → (told ≡ true → low (at + 1) → deep ≡ false) → depth ≤ (if deep then 200 else around_depth) → Hears low at depth around_depth told
+hear : (low : ℕ → Type 0) → ((n : ℕ) → low (n + 1) → low n) → (at depth around_depth : ℕ) (told deep : Bool) → (told ≡ true) ⊎ (low at → ⊥) → (told ≡ true → low (at + 1) → deep ≡ false) → depth ≤ (if deep then DEPTH_LIMIT else around_depth) → Hears low at depth around_depth told
 hear low falls at depth around_depth told false (inl e) f l = record { heard = true; holds = λ h. (e, l); hears = inl refl }
 hear low falls at depth around_depth told true (inl e) f l = record { heard = false; holds = λ h. absurd (cc); hears = inr (λ h. (let never : true ≡ false = f e h in cc)) }
 hear low falls at depth around_depth told deep (inr never) f l = record { heard = false; holds = λ h. absurd (cc); hears = inr (λ h. never (falls at h)) }

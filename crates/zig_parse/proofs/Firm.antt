@@ -7,6 +7,7 @@ use Rattle.zig_parse.proofs.Shapes.{count}
 use Rattle.zig_parse.proofs.Depths.{shallow_tree}
 use Rattle.zig_parse.proofs.Layers.{Layers, Spot, layers_more, layers_none, lays_shallow}
 use Rattle.zig_parse.proofs.Budgets.{Within}
+use Rattle.zig_tree.specs.declared.tree.TheConstants.{DEPTH_LIMIT}
 
 -- the nodes around lie no deeper than the innermost one
 pub within_base : (base n : ℕ) (fs : List Frame) → Within base n fs → base ≤ n
@@ -19,7 +20,7 @@ same_count true false f e = let wrong = f refl in absurd (cc)
 same_count false true f e = absurd (omega (arith, e))
 same_count false false f e = refl
 
-pub firm_low : (spot : Spot) (base n : ℕ) (fs : List Frame) (at depth loose : ℕ) → Layers spot fs at depth loose → loose ≡ 0 → Within base n fs → spot.base ≤ base → n ≤ 200 → AreShallow (take spot.start spot.depths)
+pub firm_low : (spot : Spot) (base n : ℕ) (fs : List Frame) (at depth loose : ℕ) → Layers spot fs at depth loose → loose ≡ 0 → Within base n fs → spot.base ≤ base → n ≤ DEPTH_LIMIT → AreShallow (take spot.start spot.depths)
     → AreShallow (take at spot.depths) × (depth ≤ n)
 firm_low spot base n fs at depth loose layers_none firm w b l h = (h, omega (arith, w, b))
 firm_low spot base n fs at depth loose (layers_more gs start outer less f had is_node layers solid high lays) firm w b l h =

@@ -16,6 +16,7 @@ use Rattle.zig_parse.proofs.TreeTables.{same_lone}
 use Rattle.zig_parse.proofs.Story.{amount_followed, height_followed, made_one, one_amount}
 use Rattle.zig_parse.proofs.Rises.{rise_made}
 use Rattle.zig_parse.proofs.Depths.{words, words_followed, IsLow, low_joined}
+use Rattle.zig_tree.specs.declared.tree.TheConstants.{DEPTH_LIMIT}
 
 -- ---- nodes that are done
 
@@ -87,16 +88,16 @@ pub record Begins (low : ℕ → Type 0) (told : Bool) (v : Thread) (at : ℕ) (
   pub lies : low at → IsLow depth (words had) (height had)
   pub tall : f.height ≤ height had
 
-shallow_is : (depth tall : ℕ) → depth + tall ≤ 200 → is_deep depth tall ≡ false
+shallow_is : (depth tall : ℕ) → depth + tall ≤ DEPTH_LIMIT → is_deep depth tall ≡ false
 unfolding is_deep
-shallow_is depth tall h = le-ltb 200 (min (depth + tall) (2 ^ 32 - 1)) (omega arith)
+shallow_is depth tall h = le-ltb DEPTH_LIMIT (min (depth + tall) (2 ^ 32 - 1)) (omega arith)
 
 or_false : (x y : Bool) → x ≡ false → y ≡ false → (x || y) ≡ false
 or_false true y h e = absurd (cc)
 or_false false y h e = e
 
 -- a node that turns solid
-level_hard : (at_depth base depth tall high some : ℕ) (solid is_node : Bool) → solid ≡ false → is_node ≡ true → at_depth ≤ base + count solid → base + count is_node ≤ depth → tall ≤ high → depth ≤ 200 → IsLow depth some high → one_more at_depth + tall ≤ 200
+level_hard : (at_depth base depth tall high some : ℕ) (solid is_node : Bool) → solid ≡ false → is_node ≡ true → at_depth ≤ base + count solid → base + count is_node ≤ depth → tall ≤ high → depth ≤ DEPTH_LIMIT → IsLow depth some high → one_more at_depth + tall ≤ DEPTH_LIMIT
 level_hard at_depth base depth tall high some true is_node s n l b t d i = absurd (cc)
 level_hard at_depth base depth tall high some false false s n l b t d i = absurd (cc)
 level_hard at_depth base depth tall high some false true s n l b t d (inl none) = omega (arith, none.1)
@@ -107,7 +108,7 @@ deeper_hard at_depth base true s l = absurd (cc)
 deeper_hard at_depth base false s l = omega arith
 
 hard_begins : (low : ℕ → Type 0) (told : Bool) (t v : Thread) (at : ℕ) (f : Frame) (fs : List Frame) (had : Pieces) (lone is_node : Bool) (base depth : ℕ) → ((n m : ℕ) → n ≤ m → low m → low n) → (s : Stands low told t at f fs had lone is_node base depth)
-    → base + count is_node ≤ depth → (low (at + 1) → depth ≤ 200) → v.frames ≡ f ∷ fs → v.depth ≡ s.u.depth → v.deep ≡ s.u.deep → f.solid ≡ false → is_node ≡ true
+    → base + count is_node ≤ depth → (low (at + 1) → depth ≤ DEPTH_LIMIT) → v.frames ≡ f ∷ fs → v.depth ≡ s.u.depth → v.deep ≡ s.u.deep → f.solid ≡ false → is_node ≡ true
     → Begins low told (hardened f v) at (record f { solid = true }) fs had lone is_node base depth
 unfolding hardened
 hard_begins low told t v at f fs had lone is_node base depth falls s b d ef ed ep soft n = record {
@@ -140,7 +141,7 @@ abbrev pub met_frame : Rule → Frame → Frame
 met_frame r f = if not f.solid && (nat_lt 0 f.parts || is_never_alone r) then record f { solid = true } else f
 
 met_by : (low : ℕ → Type 0) (told : Bool) (t v : Thread) (at : ℕ) (r : Rule) (f : Frame) (fs : List Frame) (had : Pieces) (lone is_node : Bool) (base depth : ℕ) → ((n m : ℕ) → n ≤ m → low m → low n) → (s : Stands low told t at f fs had lone is_node base depth)
-    → base + count is_node ≤ depth → (low (at + 1) → depth ≤ 200) → v.frames ≡ f ∷ fs → v.depth ≡ s.u.depth → v.deep ≡ s.u.deep
+    → base + count is_node ≤ depth → (low (at + 1) → depth ≤ DEPTH_LIMIT) → v.frames ≡ f ∷ fs → v.depth ≡ s.u.depth → v.deep ≡ s.u.deep
     → ((0 < f.parts) ⊎ (is_never_alone r ≡ true) → is_node ≡ true) → (x y z : Bool) → f.solid ≡ x → nat_lt 0 f.parts ≡ y → is_never_alone r ≡ z
     → Begins low told (if not x && (y || z) then hardened f v else v) at (if not x && (y || z) then record f { solid = true } else f) fs had lone is_node base depth
 met_by low told t v at r f fs had lone is_node base depth falls s b d ef ed ep n true y z ex ey ez = same_begins low told t v at f fs had lone is_node base depth s ef ed ep (λ e. absurd (cc))
@@ -149,7 +150,7 @@ met_by low told t v at r f fs had lone is_node base depth falls s b d ef ed ep n
 met_by low told t v at r f fs had lone is_node base depth falls s b d ef ed ep n false false false ex ey ez = same_begins low told t v at f fs had lone is_node base depth s ef ed ep (λ e. (let l = ltb-false 0 f.parts ey in omega arith))
 
 pub met_begins : (low : ℕ → Type 0) (told : Bool) (t v : Thread) (at : ℕ) (r : Rule) (f : Frame) (fs : List Frame) (had : Pieces) (lone is_node : Bool) (base depth : ℕ) → ((n m : ℕ) → n ≤ m → low m → low n) → (s : Stands low told t at f fs had lone is_node base depth)
-    → base + count is_node ≤ depth → (low (at + 1) → depth ≤ 200) → v.frames ≡ f ∷ fs → v.depth ≡ s.u.depth → v.deep ≡ s.u.deep
+    → base + count is_node ≤ depth → (low (at + 1) → depth ≤ DEPTH_LIMIT) → v.frames ≡ f ∷ fs → v.depth ≡ s.u.depth → v.deep ≡ s.u.deep
     → ((0 < f.parts) ⊎ (is_never_alone r ≡ true) → is_node ≡ true)
     → Begins low told (met r v) at (met_frame r f) fs had lone is_node base depth
 unfolding met
@@ -170,7 +171,7 @@ met_height r f = by (not f.solid && (nat_lt 0 f.parts || is_never_alone r))
 abbrev pub hard_frame : Frame → Frame
 hard_frame f = record f { solid = true }
 
-level_touch : (at_depth base depth : ℕ) (solid is_node : Bool) → (solid ≡ true → is_node ≡ true) → solid ≡ true → at_depth ≤ base + count solid → base + count is_node ≤ depth → depth ≤ 200 → at_depth + 0 ≤ 200
+level_touch : (at_depth base depth : ℕ) (solid is_node : Bool) → (solid ≡ true → is_node ≡ true) → solid ≡ true → at_depth ≤ base + count solid → base + count is_node ≤ depth → depth ≤ DEPTH_LIMIT → at_depth + 0 ≤ DEPTH_LIMIT
 level_touch at_depth base depth true true n s l b d = omega arith
 level_touch at_depth base depth true false n s l b d = absurd (let e = n s in cc)
 level_touch at_depth base depth false is_node n s l b d = absurd (cc)
@@ -179,7 +180,7 @@ pub hard_same : (f : Frame) → f.solid ≡ true → f ≡ hard_frame f
 hard_same f e = ap (λ (b : Bool). record f { solid = b }) e
 
 soft_begins : (low : ℕ → Type 0) (told : Bool) (t : Thread) (at : ℕ) (f : Frame) (fs : List Frame) (had : Pieces) (lone is_node : Bool) (base depth : ℕ) (s : Stands low told t at f fs had lone is_node base depth)
-    → base + count is_node ≤ depth → (low (at + 1) → depth ≤ 200) → f.solid ≡ true
+    → base + count is_node ≤ depth → (low (at + 1) → depth ≤ DEPTH_LIMIT) → f.solid ≡ true
     → Begins low told (record (passed s.u) { deep = s.u.deep || is_deep s.u.depth 0 }) at (hard_frame f) fs had lone is_node base depth
 soft_begins low told t at f fs had lone is_node base depth s b d e = record {
   frames = s.frames ∙ ap (λ (g : Frame). g ∷ fs) (hard_same f e);
@@ -192,13 +193,13 @@ soft_begins low told t at f fs had lone is_node base depth s b d e = record {
 }
 
 touch_by : (low : ℕ → Type 0) (told : Bool) (t : Thread) (at : ℕ) (f : Frame) (fs : List Frame) (had : Pieces) (lone is_node : Bool) (base depth : ℕ) → ((n m : ℕ) → n ≤ m → low m → low n) → (s : Stands low told t at f fs had lone is_node base depth)
-    → base + count is_node ≤ depth → (low (at + 1) → depth ≤ 200) → is_node ≡ true → (x : Bool) → f.solid ≡ x
+    → base + count is_node ≤ depth → (low (at + 1) → depth ≤ DEPTH_LIMIT) → is_node ≡ true → (x : Bool) → f.solid ≡ x
     → Begins low told (if x then record (passed s.u) { deep = s.u.deep || is_deep s.u.depth 0 } else hardened f (passed s.u)) at (hard_frame f) fs had lone is_node base depth
 touch_by low told t at f fs had lone is_node base depth falls s b d n true e = soft_begins low told t at f fs had lone is_node base depth s b d e
 touch_by low told t at f fs had lone is_node base depth falls s b d n false e = hard_begins low told t (passed s.u) at f fs had lone is_node base depth falls s b d s.frames refl refl e n
 
 pub touch_begins : (low : ℕ → Type 0) (told : Bool) (t : Thread) (at : ℕ) (f : Frame) (fs : List Frame) (had : Pieces) (lone is_node : Bool) (base depth : ℕ) → ((n m : ℕ) → n ≤ m → low m → low n) → (s : Stands low told t at f fs had lone is_node base depth)
-    → base + count is_node ≤ depth → (low (at + 1) → depth ≤ 200) → is_node ≡ true
+    → base + count is_node ≤ depth → (low (at + 1) → depth ≤ DEPTH_LIMIT) → is_node ≡ true
     → Begins low told (touched_from (passed s.u) s.u.frames) at (hard_frame f) fs had lone is_node base depth
 touch_begins low told t at f fs had lone is_node base depth falls s b d n =
     subst (λ (x : Thread). Begins low told x at (hard_frame f) fs had lone is_node base depth) (sym (ap (touched_from (passed s.u)) s.frames)) (touch_by low told t at f fs had lone is_node base depth falls s b d n f.solid refl)
@@ -310,11 +311,11 @@ shut_rise low told t at r n fs inside base depth tall s some e =
 
 -- ---- a token is read, or a brace by another thread
 
-read_level : (low : ℕ → Type 0) (at depth : ℕ) → (low (at + 1) → depth ≤ 200) → low (at + 1) → IsLow depth 1 0
+read_level : (low : ℕ → Type 0) (at depth : ℕ) → (low (at + 1) → depth ≤ DEPTH_LIMIT) → low (at + 1) → IsLow depth 1 0
 read_level low at depth d l = inr (let h = d l in omega arith)
 
 pub read_stands : (low : ℕ → Type 0) (told : Bool) (t : Thread) (at : ℕ) (f : Frame) (fs : List Frame) (had : Pieces) (lone is_node : Bool) (base depth : ℕ) (k : TokenKind) → ((n m : ℕ) → n ≤ m → low m → low n) → (s : Stands low told t at f fs had lone is_node base depth)
-    → base + count is_node ≤ depth → (low (at + 1) → depth ≤ 200) → is_node ≡ true
+    → base + count is_node ≤ depth → (low (at + 1) → depth ≤ DEPTH_LIMIT) → is_node ≡ true
     → Stands low told (after_read s.u) (at + 1) (with_part 0 (hard_frame f)) fs (followed had (word k nothing)) lone is_node base depth
 unfolding after_read
 read_stands low told t at f fs had lone is_node base depth k falls s b d n =
@@ -324,7 +325,7 @@ read_stands low told t at f fs had lone is_node base depth k falls s b d n =
     (closes_none (with_gain 0 v)) (ap (gained 0) g.frames) refl (λ h l. g.shallow h (falls (at + 1) (at + 1 + 1) (omega arith) l)) g.level (omega arith) (omega arith) (omega arith) (λ h. absurd (cc)) (read_level low at depth d)
 
 pub read_shallow : (low : ℕ → Type 0) (told : Bool) (t : Thread) (at : ℕ) (f : Frame) (fs : List Frame) (had : Pieces) (lone is_node : Bool) (base depth : ℕ) → ((n m : ℕ) → n ≤ m → low m → low n) → (s : Stands low told t at f fs had lone is_node base depth)
-    → base + count is_node ≤ depth → (low (at + 1) → depth ≤ 200) → is_node ≡ true → told ≡ true → low (at + 1) → (after_read s.u).deep ≡ false
+    → base + count is_node ≤ depth → (low (at + 1) → depth ≤ DEPTH_LIMIT) → is_node ≡ true → told ≡ true → low (at + 1) → (after_read s.u).deep ≡ false
 unfolding after_read
 read_shallow low told t at f fs had lone is_node base depth falls s b d n h l = (touch_begins low told t at f fs had lone is_node base depth falls s b d n).shallow h l
 
@@ -335,7 +336,7 @@ level_in false true at_depth base depth h l b = omega arith
 level_in false false at_depth base depth h l b = omega arith
 
 pub received_shallow : (low : ℕ → Type 0) (told : Bool) (v : Thread) (at later : ℕ) (f : Frame) (fs : List Frame) (had : Pieces) (lone is_node : Bool) (base depth tall own : ℕ) → ((n m : ℕ) → n ≤ m → low m → low n)
-    → Begins low told v at f fs had lone is_node base depth → base + count is_node ≤ depth → at < later → own ≤ tall → (low later → depth + tall ≤ 200) → told ≡ true → low later → (received own v).deep ≡ false
+    → Begins low told v at f fs had lone is_node base depth → base + count is_node ≤ depth → at < later → own ≤ tall → (low later → depth + tall ≤ DEPTH_LIMIT) → told ≡ true → low later → (received own v).deep ≡ false
 unfolding received
 received_shallow low told v at later f fs had lone is_node base depth tall own falls g b within small d h l =
     let inner = d l in
@@ -343,7 +344,7 @@ received_shallow low told v at later f fs had lone is_node base depth tall own f
     or_false v.deep (is_deep v.depth own) (g.shallow h (falls (at + 1) later (omega arith) l)) (shallow_is v.depth own (omega arith))
 
 pub received_stands : (low : ℕ → Type 0) (told : Bool) (v : Thread) (at later : ℕ) (f : Frame) (fs : List Frame) (had piece : Pieces) (lone is_node : Bool) (base depth own : ℕ) → ((n m : ℕ) → n ≤ m → low m → low n)
-    → Begins low told v at f fs had lone is_node base depth → base + count is_node ≤ depth → at < later → own ≤ height piece → 0 < amount piece → (f.solid ≡ false → is_one_node piece ≡ true) → (low later → depth + height piece ≤ 200)
+    → Begins low told v at f fs had lone is_node base depth → base + count is_node ≤ depth → at < later → own ≤ height piece → 0 < amount piece → (f.solid ≡ false → is_one_node piece ≡ true) → (low later → depth + height piece ≤ DEPTH_LIMIT)
     → Stands low told (received own v) later (with_part own f) fs (followed had piece) lone is_node base depth
 unfolding received
 received_stands low told v at later f fs had piece lone is_node base depth own falls g b within small some one d =

@@ -22,6 +22,7 @@ use Rattle.zig_parse.proofs.Moving.{Comes, Each, coming, each_joined, each_kept,
 use Rattle.zig_parse.proofs.Keeping.{all_go_on, goes_on, goes_on_by, keep_each, resumed_as, token_as}
 use Rattle.zig_parse.proofs.Entering.{those_each}
 use Rattle.zig_parse.proofs.Budgets.{Held, Moved, Rested, met_held, moving_moved, read_rested, received_rested}
+use Rattle.zig_tree.specs.declared.tree.TheConstants.{DEPTH_LIMIT}
 
 -- ---- where what is read in a brace began
 
@@ -45,9 +46,9 @@ has_room (part.OneOf _) depth = Unit {0}
 
 -- what holds of a thread in a node of the depth at which it began
 abbrev pub Grounded : (ℕ → Thread → Type 0) → List (List Thread) → Thread → Type 0
-Grounded P waiting t = (depth : ℕ) → depth_in waiting t.goal ≡ Some depth → depth ≤ 200 → has_room t.goal depth → P (base_of t.goal depth) t
+Grounded P waiting t = (depth : ℕ) → depth_in waiting t.goal ≡ Some depth → depth ≤ DEPTH_LIMIT → has_room t.goal depth → P (base_of t.goal depth) t
 
-grounded_as : (P : ℕ → Thread → Type 0) (waiting : List (List Thread)) (goal : Part) (u : Thread) → u.goal ≡ goal → ((depth : ℕ) → depth_in waiting goal ≡ Some depth → depth ≤ 200 → has_room goal depth → P (base_of goal depth) u) → Grounded P waiting u
+grounded_as : (P : ℕ → Thread → Type 0) (waiting : List (List Thread)) (goal : Part) (u : Thread) → u.goal ≡ goal → ((depth : ℕ) → depth_in waiting goal ≡ Some depth → depth ≤ DEPTH_LIMIT → has_room goal depth → P (base_of goal depth) u) → Grounded P waiting u
 grounded_as P waiting goal u e f depth i l r =
     subst (λ (g : Part). P (base_of g depth) u) (sym e) (f depth (subst (λ (g : Part). depth_in waiting g ≡ Some depth) e i) l (subst (λ (g : Part). has_room g depth) e r))
 
@@ -60,7 +61,7 @@ ground_moves : (waiting : List (List Thread)) (look : Look) (at : ℕ) (t : Thre
 ground_moves waiting look at t h = by (moving look at t) (moving_come (look.kind ∷ look.next ∷ []) at t) (λ depth i l r. moving_moved (base_of t.goal depth) look at t (h depth i l r))
   where
     by : (us : List Thread) → Each (λ (u : Thread). Comes (look.kind ∷ look.next ∷ []) t.goal (coming t) u) us
-        → ((depth : ℕ) → depth_in waiting t.goal ≡ Some depth → depth ≤ 200 → has_room t.goal depth → Each (Moved (base_of t.goal depth)) us) → Each (Grounded Moved waiting) us
+        → ((depth : ℕ) → depth_in waiting t.goal ≡ Some depth → depth ≤ DEPTH_LIMIT → has_room t.goal depth → Each (Moved (base_of t.goal depth)) us) → Each (Grounded Moved waiting) us
     by [] c f = tt
     by (u ∷ us) c f = (grounded_as Moved waiting t.goal u c.0.same_goal (λ depth i l r. (f depth i l r).0), by us c.1 (λ depth i l r. (f depth i l r).1))
 
@@ -75,7 +76,7 @@ settled_grounds waiting look at ts h =
 pub same_depth : (a b : ℕ) → ◌≡◌ {A = Option ℕ} (Some a) (Some b) → b ≡ a
 same_depth a b e = cc
 
-begun_moved : (look : Look) (p : Part) (depth : ℕ) → Five p → depth ≤ 200 → has_room p depth → Moved (base_of p depth) (begun look p depth)
+begun_moved : (look : Look) (p : Part) (depth : ℕ) → Five p → depth ≤ DEPTH_LIMIT → has_room p depth → Moved (base_of p depth) (begun look p depth)
 unfolding begun choices matching rule_rows group_rows put opened fresh collapses
 begun_moved look p depth five_block l r = λ d. ((omega arith, omega arith, omega arith), inr (record { ps = part.Token kind.LeftBrace ∷ body (part.Rule rule.Block); later = []; items = refl; some = refl; fits = omega arith }))
 begun_moved look p depth five_initializer l r = λ d. ((omega arith, omega arith, omega arith), inr (record { ps = part.Token kind.LeftBrace ∷ body (part.Rule rule.Initializer); later = []; items = refl; some = refl; fits = omega arith }))
@@ -87,7 +88,7 @@ begun_grounds : (look : Look) (those : List Thread) (waiting : List (List Thread
 begun_grounds look those waiting p depth five e =
     grounded_as Moved (those ∷ waiting) p (begun look p depth) (opens (look.kind ∷ look.next ∷ []) p depth five).own_goal
     (λ other i l r. (let same = same_depth depth other (sym e ∙ i) in
-    subst (λ (n : ℕ). Moved (base_of p n) (begun look p depth)) (sym same) (begun_moved look p depth five (subst (λ (n : ℕ). n ≤ 200) same l) (subst (λ (n : ℕ). has_room p n) same r))))
+    subst (λ (n : ℕ). Moved (base_of p n) (begun look p depth)) (sym same) (begun_moved look p depth five (subst (λ (n : ℕ). n ≤ DEPTH_LIMIT) same l) (subst (λ (n : ℕ). has_room p n) same r))))
 
 for_found : (P : Thread → Type 0) (look : Look) (ts : List Thread) (p : Part) → ((depth : ℕ) → least_from None p ts ≡ Some depth → P (begun look p depth)) → Each P (begun_for look ts p)
 for_found P look ts p f = by (least_from None p ts) refl
@@ -144,7 +145,7 @@ each_mapped : (P : Thread → Type 0) (f : Thread → Thread) (ts : List Thread)
 each_mapped P f [] h = tt
 each_mapped P f (t ∷ ts) h = (h.0, each_mapped P f ts h.1)
 
-base_low : (p : Part) (depth : ℕ) → depth ≤ 200 → base_of p depth ≤ 200
+base_low : (p : Part) (depth : ℕ) → depth ≤ DEPTH_LIMIT → base_of p depth ≤ DEPTH_LIMIT
 base_low (part.Group _) depth l = omega arith
 base_low (part.Rule _) depth l = l
 base_low (part.Token _) depth l = l

@@ -29,6 +29,7 @@ use Rattle.zig_parse.proofs.Story.{amount_followed, height_followed, made_always
 use Rattle.zig_parse.proofs.Standing.{opened_depth}
 use Rattle.zig_parse.proofs.Sound.{next_at, level_same}
 use Rattle.zig_parse.proofs.Runs.{read_at}
+use Rattle.zig_tree.specs.declared.tree.TheConstants.{DEPTH_LIMIT}
 
 -- an open node: its rule, the nodes around it and how many of them are nodes of the tree for sure, its first
 -- token, what those nodes hold, and all that it will hold itself; and, where that is told, that no node lies too deep
@@ -40,7 +41,7 @@ pub record Place : Type 0 where
   pub others : List Kid
   pub whole : Pieces
   pub told : Bool
-  pub low : told ≡ true → below + height (made r whole) ≤ 200
+  pub low : told ≡ true → below + height (made r whole) ≤ DEPTH_LIMIT
 
 -- what is to come in it, and after it
 abbrev pub coming : Place → List Part → List Item → List Item
@@ -71,25 +72,25 @@ tall_by false r p = omega arith
 pub made_tall : (r : Rule) (p : Pieces) → height p ≤ height (made r p)
 made_tall r p = tall_by (makes_no_node_alone r && is_one_node p) r p
 
-pub not_deep : (depth tall : ℕ) → depth + tall ≤ 200 → is_deep depth tall ≡ false
+pub not_deep : (depth tall : ℕ) → depth + tall ≤ DEPTH_LIMIT → is_deep depth tall ≡ false
 unfolding is_deep
-not_deep depth tall h = le-ltb 200 (min (depth + tall) (2 ^ 32 - 1)) (omega arith)
+not_deep depth tall h = le-ltb DEPTH_LIMIT (min (depth + tall) (2 ^ 32 - 1)) (omega arith)
 
 or_none : (x y : Bool) → x ≡ false → y ≡ false → (x || y) ≡ false
 or_none true y h e = absurd (cc)
 or_none false y h e = e
 
-pub solid_low : (l : Place) → l.told ≡ true → made l.r l.whole ≡ node l.r l.whole nothing → l.below + 1 + height l.whole ≤ 200
+pub solid_low : (l : Place) → l.told ≡ true → made l.r l.whole ≡ node l.r l.whole nothing → l.below + 1 + height l.whole ≤ DEPTH_LIMIT
 solid_low l t e = let h = l.low t in omega (arith, ap height e)
 
 pub had_low : (whole had more : Pieces) → whole ≡ followed had more → (height had ≤ height whole) × (height more ≤ height whole)
 had_low whole had more e = (omega (arith, ap height e, height_followed had more), omega (arith, ap height e, height_followed had more))
 
 -- whatever is made of what it will hold lies no deeper than 200
-pub within_low : (tokens : List Token) (at : ℕ) (g : Grown) (l : Place) (items : List Item) (had : Pieces) (s : State tokens at g l items had) → l.told ≡ true → g.thread.depth + height l.whole ≤ 200
+pub within_low : (tokens : List Token) (at : ℕ) (g : Grown) (l : Place) (items : List Item) (had : Pieces) (s : State tokens at g l items had) → l.told ≡ true → g.thread.depth + height l.whole ≤ DEPTH_LIMIT
 within_low tokens at g l items had s t = by s.f.solid (s.depth t) s.solid
   where
-    by : (b : Bool) → g.thread.depth ≡ l.below + count b → (b ≡ true → made l.r l.whole ≡ node l.r l.whole nothing) → g.thread.depth + height l.whole ≤ 200
+    by : (b : Bool) → g.thread.depth ≡ l.below + count b → (b ≡ true → made l.r l.whole ≡ node l.r l.whole nothing) → g.thread.depth + height l.whole ≤ DEPTH_LIMIT
     by true e h = (let low = solid_low l t (h refl) in omega arith)
     by false e h = (let low = l.low t in omega (arith, made_tall l.r l.whole))
 

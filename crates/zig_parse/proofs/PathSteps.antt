@@ -30,6 +30,7 @@ use Rattle.zig_parse.proofs.Paths.{Seen, Told, look_of, parts_of_items, is_cons,
 use Rattle.zig_parse.proofs.Depths.{words, words_followed, words_made, words_read, derived_full, full_made, Lies, lies_left, lies_right, lies_made, IsLow, next_low, read_low}
 use Rattle.zig_parse.proofs.Calm.{is_calm_rule, starts_calm, rule_forks, group_forks, fork_starts, calm_starts, is_free, is_free_group, lone_row_free, group_row_free, taken_among}
 use Rattle.zig_parse.proofs.Follows.{Closes, closes_none, closes_one, closes_items, closes_fewer, Stands, Begins, met_begins, met_frame, hard_frame, makes, new_frame, open_stands, read_stands, read_shallow}
+use Rattle.zig_tree.specs.declared.tree.TheConstants.{DEPTH_LIMIT}
 
 -- ---- what a thread does next
 
@@ -326,7 +327,7 @@ some_words r a tokens mid inside m d =
 pub lone_some : (r : Rule) (a : Alternative) (tokens mid : List TokenKind) (inside : Pieces) → Among a (open_at tokens (rule_rows r)) → Derives a.parts tokens mid inside → makes_no_node_alone r ≡ true → 0 < amount inside
 lone_some r a tokens mid inside m d h = piece_amount a.parts tokens mid inside d (row_tested row_has_piece a (rule_rows r) (lone_filled r h) (open_is_row tokens a (rule_rows r) m))
 
-rule_next_low : (low : ℕ → Type 0) (at depth : ℕ) (r : Rule) (inside p : Pieces) → 0 < words inside → Lies low at depth (followed (made r inside) p) → low (at + 1) → depth ≤ 200
+rule_next_low : (low : ℕ → Type 0) (at depth : ℕ) (r : Rule) (inside p : Pieces) → 0 < words inside → Lies low at depth (followed (made r inside) p) → low (at + 1) → depth ≤ DEPTH_LIMIT
 rule_next_low low at depth r inside p some lies = next_low low at depth (followed (made r inside) p) (omega (arith, words_followed (made r inside) p, words_made r inside)) lies
 
 -- where it begins

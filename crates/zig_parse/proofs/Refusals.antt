@@ -3,6 +3,7 @@ use Rattle.std.proofs.Common.{◌≡◌, ℕ, zero, suc, ◌+◌, ◌<◌, ◌�
 use Rattle.std.proofs.lemmas.Bool.{cases_order}
 use Rattle.zig_tree.specs.declared.token.TokenKind.{TokenKind}
 use Rattle.zig_tree.specs.GrammarSentences.{Pieces, nothing, word, node, Sentence, Accepted, AreShallow, Begins, BeginsShallow, IsRefused, IsUnexpected, IsTooDeep, height, token_depths}
+use Rattle.zig_tree.specs.declared.tree.TheConstants.{DEPTH_LIMIT}
 
 -- ---- depths
 
@@ -22,7 +23,7 @@ shallow_taken (suc n) [] h = tt
 shallow_taken (suc n) (x ∷ xs) h = (h.0, shallow_taken n xs h.1)
 
 -- no token of a tree lies deeper than the tree is high
-depths_low : (depth : ℕ) (p : Pieces) → depth + height p ≤ 200 → AreShallow (token_depths depth p)
+depths_low : (depth : ℕ) (p : Pieces) → depth + height p ≤ DEPTH_LIMIT → AreShallow (token_depths depth p)
 depths_low depth nothing h = tt
 depths_low depth (word k more) h = (omega arith, depths_low depth more h)
 depths_low depth (node r inside more) h =

@@ -46,6 +46,7 @@ use Rattle.zig_parse.proofs.Standing.{Outer, at_root, in_node, outer_closes, Sta
 use Rattle.zig_parse.proofs.CostTables.{cost_of_rule, front_cost, rule_cost_small}
 use Rattle.zig_parse.proofs.Costs.{group_front, rule_row_fits}
 use Rattle.zig_parse.proofs.Closing.{Shut, shut_parts, close_step}
+use Rattle.zig_tree.specs.declared.tree.TheConstants.{DEPTH_LIMIT}
 
 -- ---- depth is never forgotten
 
@@ -366,7 +367,7 @@ nothing_left : (tokens : List Token) → left_from tokens (length tokens) ≡ []
 nothing_left [] = refl
 nothing_left (t ∷ ts) = nothing_left ts
 
-root_low : (tall height solid depth own : ℕ) → tall ≤ height + solid → depth ≡ 0 + solid → 0 < own → ((own ≡ 0) × (height ≡ 0)) ⊎ (depth + height ≤ 200) → tall ≤ 200
+root_low : (tall height solid depth own : ℕ) → tall ≤ height + solid → depth ≡ 0 + solid → 0 < own → ((own ≡ 0) × (height ≡ 0)) ⊎ (depth + height ≤ DEPTH_LIMIT) → tall ≤ DEPTH_LIMIT
 root_low tall height solid depth own h e some (inl none) = absurd (omega (arith, none.0))
 root_low tall height solid depth own h e some (inr l) = omega arith
 

@@ -27,6 +27,7 @@ use Rattle.zig_parse.proofs.Shapes.{count}
 use Rattle.zig_parse.proofs.TreeTables.{same_lone}
 use Rattle.zig_parse.proofs.Spelled.{spells_within}
 use Rattle.zig_parse.proofs.Story.{Inside, left_from, inside_more, inside_group, inside_new, inside_hard, inside_token}
+use Rattle.zig_tree.specs.declared.tree.TheConstants.{DEPTH_LIMIT}
 
 -- ---- the nodes around the innermost one
 
@@ -148,9 +149,9 @@ or_false : (x y : Bool) → (x || y) ≡ false → (x ≡ false) × (y ≡ false
 or_false true y h = absurd (cc)
 or_false false y h = (refl, h)
 
-pub shallow_deep : (depth height : ℕ) → is_deep depth height ≡ false → depth + height ≤ 200
+pub shallow_deep : (depth height : ℕ) → is_deep depth height ≡ false → depth + height ≤ DEPTH_LIMIT
 unfolding is_deep
-shallow_deep depth height h = let l = ltb-false 200 (min (depth + height) (2 ^ 32 - 1)) h in omega (arith, l)
+shallow_deep depth height h = let l = ltb-false DEPTH_LIMIT (min (depth + height) (2 ^ 32 - 1)) h in omega (arith, l)
 
 one_more_is : (n : ℕ) → n ≤ 400 → one_more n ≡ n + 1
 one_more_is n h = omega arith
@@ -265,7 +266,7 @@ rule_step tokens at moves t parts r qs b m s h =
 
 -- ---- a token is read
 
-still_low : (depth height own : ℕ) → depth + 0 ≤ 200 → ((own ≡ 0) × (height ≡ 0)) ⊎ (depth + height ≤ 200) → depth + height ≤ 200
+still_low : (depth height own : ℕ) → depth + 0 ≤ DEPTH_LIMIT → ((own ≡ 0) × (height ≡ 0)) ⊎ (depth + height ≤ DEPTH_LIMIT) → depth + height ≤ DEPTH_LIMIT
 still_low depth height own h (inl none) = omega (arith, none.1)
 still_low depth height own h (inr l) = l
 
@@ -278,7 +279,7 @@ soft_touch f e = ap (λ (b : Bool). with_part 0 (record f { solid = b })) e
 
 read_standing : (tokens : List Token) (at moves : ℕ) (t u : Thread) (parts : Parts) (q : Part) (k : Token) (qs : List Part) (s : Standing tokens at moves t parts (q ∷ qs)) → at < length tokens → length tokens < 2 ^ 32
     → ((end : List TokenKind) (later : Pieces) → Derives qs (left_from tokens (at + 1)) end later → Derives (q ∷ qs) (left_from tokens at) end (word k.kind later)) → slice_get tokens at ≡ Some k
-    → u.frames ≡ touched s.f ∷ s.fs → u.items ≡ rest t.items → u.depth ≡ s.depth + 1 → u.depth + s.f.height ≤ 200
+    → u.frames ≡ touched s.f ∷ s.fs → u.items ≡ rest t.items → u.depth ≡ s.depth + 1 → u.depth + s.f.height ≤ DEPTH_LIMIT
     → Standing tokens (at + 1) 100 u (record { nodes = parts.nodes; kids = parts.kids ++ kid.Token at ∷ [] }) qs
 read_standing tokens at moves t u parts q k qs s within fits reads there ef ei ed low =
     let have = spells_within tokens parts.nodes s.own s.from at s.inside.pieces s.inside.spelled in

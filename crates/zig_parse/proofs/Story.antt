@@ -23,6 +23,7 @@ use Rattle.zig_parse.proofs.Shapes.{count, row_fills, has_piece, row_has_piece, 
 use Rattle.zig_parse.proofs.Tables.{rule_filled}
 use Rattle.zig_parse.proofs.TreeTables.{lone_filled, rule_led, group_led}
 use Rattle.zig_parse.proofs.Spelled.{amount, spells_more, spells_joined, spells_amount, spells_within}
+use Rattle.zig_tree.specs.declared.tree.TheConstants.{DEPTH_LIMIT}
 
 -- ---- pieces
 
@@ -145,7 +146,7 @@ pub record Inside (tokens : List Token) (nodes : List Node) (f : Frame) (from at
   pub spelled : Spells tokens nodes own from at pieces
   pub counted : f.parts ≡ length own
   pub low : height pieces ≤ f.height
-  pub shallow : ((length own ≡ 0) × (f.height ≡ 0)) ⊎ (depth + f.height ≤ 200)
+  pub shallow : ((length own ≡ 0) × (f.height ≡ 0)) ⊎ (depth + f.height ≤ DEPTH_LIMIT)
   pub led : is_led qs ≡ true
 
 unfoldable pub inside_more : (tokens : List Token) (nodes more : List Node) (f : Frame) (from at : ℕ) (own : List Kid) (qs : List Part) (depth : ℕ) → Inside tokens nodes f from at own qs depth → Inside tokens (nodes ++ more) f from at own qs depth
@@ -220,7 +221,7 @@ begun_amount tokens nodes f from at own r qs depth i (inr more) end later d =
     let two = rule_and_more r qs (left_from tokens at) end later d (led_first (part.Rule r) qs i.led more) in
     several (followed i.pieces later) (omega (arith, amount_followed i.pieces later))
 
-pub inside_hard : (tokens : List Token) (nodes : List Node) (f : Frame) (from at : ℕ) (own : List Kid) (r : Rule) (qs : List Part) (depth deeper : ℕ) → (0 < f.parts) ⊎ (is_never_alone r ≡ true) → deeper + f.height ≤ 200
+pub inside_hard : (tokens : List Token) (nodes : List Node) (f : Frame) (from at : ℕ) (own : List Kid) (r : Rule) (qs : List Part) (depth deeper : ℕ) → (0 < f.parts) ⊎ (is_never_alone r ≡ true) → deeper + f.height ≤ DEPTH_LIMIT
     → Inside tokens nodes f from at own (part.Rule r ∷ qs) depth → Inside tokens nodes (record f { solid = true }) from at own (part.Rule r ∷ qs) deeper
 inside_hard tokens nodes f from at own r qs depth deeper some l i = record {
   a = i.a;
@@ -239,7 +240,7 @@ inside_hard tokens nodes f from at own r qs depth deeper some l i = record {
 -- a token is read
 pub inside_token : (tokens : List Token) (nodes : List Node) (f : Frame) (from at : ℕ) (own : List Kid) (q : Part) (t : Token) (qs : List Part) (depth deeper : ℕ) (more : Frame)
     → ((end : List TokenKind) (later : Pieces) → Derives qs (left_from tokens (at + 1)) end later → Derives (q ∷ qs) (left_from tokens at) end (word t.kind later)) → slice_get tokens at ≡ Some t
-    → more.rule ≡ f.rule → more.solid ≡ true → more.parts ≡ f.parts + 1 → f.height ≤ more.height → deeper + more.height ≤ 200
+    → more.rule ≡ f.rule → more.solid ≡ true → more.parts ≡ f.parts + 1 → f.height ≤ more.height → deeper + more.height ≤ DEPTH_LIMIT
     → Inside tokens nodes f from at own (q ∷ qs) depth → Inside tokens nodes more from (at + 1) (own ++ kid.Token at ∷ []) qs deeper
 inside_token tokens nodes f from at own q t qs depth deeper more reads there r s p h l i =
     let pieces = followed i.pieces (word t.kind nothing) in
@@ -302,7 +303,7 @@ lone_piece tokens nodes kids a b p q (spells_nothing _) e h = h
 lone_piece tokens nodes kids a b p q (spells_token _ _ t ks later i s) e h = absurd (omega arith)
 lone_piece tokens nodes kids a b p q (spells_node number _ next _ n ks inside later i k f s u) e h = absurd (omega arith)
 
-shallow_part : (f g more own others depth0 depth solid : ℕ) → more ≡ max f (g + solid) → depth0 + solid ≡ depth → ((own ≡ 0) × (f ≡ 0)) ⊎ (depth0 + f ≤ 200) → ((others ≡ 0) × (g ≡ 0)) ⊎ (depth + g ≤ 200) → 0 < others → depth0 + more ≤ 200
+shallow_part : (f g more own others depth0 depth solid : ℕ) → more ≡ max f (g + solid) → depth0 + solid ≡ depth → ((own ≡ 0) × (f ≡ 0)) ⊎ (depth0 + f ≤ DEPTH_LIMIT) → ((others ≡ 0) × (g ≡ 0)) ⊎ (depth + g ≤ DEPTH_LIMIT) → 0 < others → depth0 + more ≤ DEPTH_LIMIT
 shallow_part f g more own others depth0 depth solid h l o (inl none) some = absurd (omega (arith, none.0))
 shallow_part f g more own others depth0 depth solid h l (inl none) (inr i) some = omega (arith, none.1)
 shallow_part f g more own others depth0 depth solid h l (inr o) (inr i) some = omega arith

@@ -37,6 +37,7 @@ use Rattle.zig_parse.proofs.Growing.{Place, State, coming}
 use Rattle.zig_parse.proofs.Gathered.{gathered}
 use Rattle.zig_parse.proofs.Goes.{After, Goes, after_run, kinds_length, token_after}
 use Rattle.zig_parse.proofs.SureGoes.{Agrees, reads_token, sure_derives, sure_goes}
+use Rattle.zig_tree.specs.declared.tree.TheConstants.{DEPTH_LIMIT}
 
 -- ---- the root's parts
 
@@ -108,7 +109,7 @@ root_sure kinds tree forks (sure_rule_apart _ a _ _ _ mid _ _ p later inner oute
 
 -- where it is told, no node of these pieces in the root lies too deep
 abbrev Low : Bool → Pieces → Type 0
-Low told p = told ≡ true → 0 + height (made rule.Root p) ≤ 200
+Low told p = told ≡ true → 0 + height (made rule.Root p) ≤ DEPTH_LIMIT
 
 abbrev root_place : (told : Bool) (p : Pieces) → Low told p → Place
 root_place told p low = record { r = rule.Root; fs = []; below = 0; from = 0; others = []; whole = p; told = told; low = low }
@@ -246,7 +247,7 @@ record RootRead (tokens : List Token) (marks : List Bool) (told : Bool) (tree : 
   low : Low told p
   after : After tokens marks 0 (sprout (look_at tokens 0)) (root_place told p low) [] p []
 
-root_read : (told : Bool) (tokens : List Token) (tree : Pieces) (forks : List Fork) (marks : List Bool) → length tokens < 2 ^ 32 → Sure (part.Rule rule.Root ∷ []) [] (kinds_of tokens) [] [] tree forks → Agrees tokens marks forks → (told ≡ true → height tree ≤ 200)
+root_read : (told : Bool) (tokens : List Token) (tree : Pieces) (forks : List Fork) (marks : List Bool) → length tokens < 2 ^ 32 → Sure (part.Rule rule.Root ∷ []) [] (kinds_of tokens) [] [] tree forks → Agrees tokens marks forks → (told ≡ true → height tree ≤ DEPTH_LIMIT)
     → RootRead tokens marks told tree
 root_read told tokens tree forks marks fits s agree low =
     let r = root_sure (kinds_of tokens) tree forks s in
@@ -257,7 +258,7 @@ root_read told tokens tree forks marks fits s agree low =
     record { p = r.p; same = r.same; some = some; low = lower; after = all_gone tokens marks told r.p m.inside lower fits m.same go }
 
 -- the second pass gives nodes that spell the tree
-pub sure_grown : (tokens : List Token) (tree : Pieces) (forks : List Fork) (marks : List Bool) → length tokens < 2 ^ 32 → Sure (part.Rule rule.Root ∷ []) [] (kinds_of tokens) [] [] tree forks → Agrees tokens marks forks → height tree ≤ 200
+pub sure_grown : (tokens : List Token) (tree : Pieces) (forks : List Fork) (marks : List Bool) → length tokens < 2 ^ 32 → Sure (part.Rule rule.Root ∷ []) [] (kinds_of tokens) [] [] tree forks → Agrees tokens marks forks → height tree ≤ DEPTH_LIMIT
     → GrownAs tokens (grown_from tokens marks) tree
 sure_grown tokens tree forks marks fits s agree low =
     let r = root_read true tokens tree forks marks fits s agree (λ t. low) in
@@ -294,7 +295,7 @@ grown_or tokens tree forks marks fits s agree =
     ]
 
 -- so where the first pass names the choices, all is read as that tree
-pub sure_parsed : (tokens : List Token) (tree : Pieces) (forks : List Fork) (marks : List Bool) → length tokens < 2 ^ 32 → Sure (part.Rule rule.Root ∷ []) [] (kinds_of tokens) [] [] tree forks → Agrees tokens marks forks → height tree ≤ 200
+pub sure_parsed : (tokens : List Token) (tree : Pieces) (forks : List Fork) (marks : List Bool) → length tokens < 2 ^ 32 → Sure (part.Rule rule.Root ∷ []) [] (kinds_of tokens) [] [] tree forks → Agrees tokens marks forks → height tree ≤ DEPTH_LIMIT
     → surveyed (length tokens) 0 tokens (first_state (look_at tokens 0)) (replicate (length tokens) false) ≡ Ok marks → GrownAs tokens (parse_of tokens) tree
 unfolding parse_of
 sure_parsed tokens tree forks marks fits s agree low found =

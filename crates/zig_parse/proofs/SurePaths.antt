@@ -37,6 +37,7 @@ use Rattle.zig_parse.proofs.PathSteps.{parts_joined, read_items, token_makes, ne
 use Rattle.zig_parse.proofs.Weights.{lone_begins}
 use Rattle.zig_parse.proofs.Layers.{Lays, layers_none, lays_left, lays_made, root_spot}
 use Rattle.zig_parse.proofs.Sights.{Sight, after_group_sight, after_rule_sight, group_awaits, group_inner, group_seen, group_sight, rule_awaits, rule_inner, rule_seen, rule_sight, token_seen, token_sight}
+use Rattle.zig_tree.specs.declared.tree.TheConstants.{DEPTH_LIMIT}
 
 -- ---- what stands in braces
 
@@ -178,7 +179,7 @@ piece_goes low told fs lone is_node base depth later next end height outer at n 
     goes_as low told fs lone is_node base depth later next end height outer (at + words (followed piece p)) (at + n + words p) (followed had (followed piece p)) (followed (followed had piece) p) (max tall (max x y)) (max z y)
     (omega (arith, words_followed piece p)) (sym (followed_twice had piece p)) (omega arith) goes
 
-low_some : (depth n tall : ℕ) → 0 < n → IsLow depth n tall → depth + tall ≤ 200
+low_some : (depth n tall : ℕ) → 0 < n → IsLow depth n tall → depth + tall ≤ DEPTH_LIMIT
 low_some depth n tall h (inl none) = absurd (omega (arith, none.0))
 low_some depth n tall h (inr l) = l
 
@@ -447,7 +448,7 @@ pub low_falls : (tree : Pieces) (n m : ℕ) → n ≤ m → low_in tree m → lo
 low_falls tree n m e l = shallow_fewer n m (token_depths 0 tree) e l
 
 -- and all of them do in a tree of no more than 200 nodes one in the other
-pub tree_low : (tree : Pieces) (n : ℕ) → height tree ≤ 200 → low_in tree n
+pub tree_low : (tree : Pieces) (n : ℕ) → height tree ≤ DEPTH_LIMIT → low_in tree n
 tree_low tree n h = shallow_some n (token_depths 0 tree) (shallow_tree 0 tree (omega arith))
 
 root_sole : (tokens : List TokenKind) (a : Alternative) → Taken [] tokens [] (open_at tokens (rule_rows rule.Root)) a [] → open_at tokens (rule_rows rule.Root) ≡ a ∷ []

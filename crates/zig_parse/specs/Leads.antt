@@ -15,6 +15,7 @@ use Rattle.zig_parse.specs.Stack.{rest}
 use Rattle.zig_parse.specs.Moves.{waits_for}
 use Rattle.zig_parse.specs.Passes.{all_deep, least_from}
 use Rattle.zig_parse.specs.Surveys.{first_state, next_state}
+use Rattle.zig_tree.specs.declared.tree.TheConstants.{DEPTH_LIMIT}
 
 -- ---- the first of the ways
 
@@ -36,16 +37,16 @@ any_goes alive goal (t ∷ ts) = is_part t.goal goal && goes_for alive (waits_fo
 -- they nor those below them lie too deep then.
 abbrev pub Roomy : ℕ → ℕ → List Frame → Type 0
 Roomy more depth [] = Unit {0}
-Roomy more depth (f ∷ fs) = (f.height + depth + more ≤ 200) × Roomy more (if f.solid then depth - 1 else depth) fs
+Roomy more depth (f ∷ fs) = (f.height + depth + more ≤ DEPTH_LIMIT) × Roomy more (if f.solid then depth - 1 else depth) fs
 
 abbrev pub HasRoom : ℕ → Thread → Type 0
-HasRoom more t = (more ≡ 0) ⊎ ((t.depth + more ≤ 200) × Roomy more t.depth t.frames)
+HasRoom more t = (more ≡ 0) ⊎ ((t.depth + more ≤ DEPTH_LIMIT) × Roomy more t.depth t.frames)
 
 -- A thread that waits isn't marked as deep and lies within the limit, also with those nodes around it that aren't
 -- counted. For what it waits for the count begins at this depth, so that there so many nodes aren't counted.
 pub record Sits (t : Thread) (around least more : ℕ) : Type 0 where
   pub shallow : t.deep ≡ false
-  pub low : t.depth + around ≤ 200
+  pub low : t.depth + around ≤ DEPTH_LIMIT
   pub room : HasRoom around t
   pub counted : t.depth + around ≤ least + more
   pub some : (t.depth + around ≡ least) ⊎ (0 < least)

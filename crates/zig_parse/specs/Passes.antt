@@ -16,6 +16,7 @@ use Rattle.zig_parse.specs.declared.survey.Verdict.TheVariants as verdict
 use Rattle.zig_parse.specs.Choices.{choices}
 use Rattle.zig_parse.specs.Threads.{after_read, fresh, met_part, opened, put, received, risen, surround, with_choices}
 use Rattle.zig_parse.specs.Moves.{goes_as_far, waits_for}
+use Rattle.zig_tree.specs.declared.tree.TheConstants.{DEPTH_LIMIT}
 
 -- the alternatives of a part that are taken
 abbrev pub part_choices : Look → Part → List (List Part)
@@ -65,7 +66,7 @@ any_waits (t ∷ ts) = is_some (waits_for t) || any_waits ts
 
 -- how deep the node around the brace lies, where no token lies too deep
 abbrev pub depth_for : Thread → ℕ
-depth_for t = if t.deep then 200 else t.depth
+depth_for t = if t.deep then DEPTH_LIMIT else t.depth
 
 abbrev pub least_with : ℕ → Option ℕ → ℕ
 least_with d None = d

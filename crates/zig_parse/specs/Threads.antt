@@ -10,6 +10,7 @@ use Rattle.zig_parse.specs.declared.thread.Frame.{Frame}
 use Rattle.zig_parse.specs.declared.thread.Item.{Item}
 use Rattle.zig_parse.specs.declared.thread.Thread.{Thread}
 use Rattle.zig_parse.specs.Stack.{rest, with_first}
+use Rattle.zig_tree.specs.declared.tree.TheConstants.{DEPTH_LIMIT}
 
 -- one more, up to the greatest count
 abbrev pub one_more : ℕ → ℕ
@@ -17,7 +18,7 @@ one_more n = min (n + 1) (2 ^ 32 - 1)
 
 -- whether so many nodes below a node at this depth lie below the 200th
 unfoldable pub is_deep : ℕ → ℕ → Bool
-is_deep depth height = nat_lt 200 (min (depth + height) (2 ^ 32 - 1))
+is_deep depth height = nat_lt DEPTH_LIMIT (min (depth + height) (2 ^ 32 - 1))
 
 -- whether a rule makes no node where it takes one part and no token of its own
 unfoldable pub collapses : Rule → Bool

@@ -16,6 +16,7 @@ use Rattle.zig_parse.specs.Nodes.{joined, token_span}
 use Rattle.zig_parse.specs.Surveys.{kind_of}
 use Rattle.zig_parse.specs.Leads.{Ending, IsEven, Leader, ends_named, read_front}
 use Rattle.zig_parse.specs.Passes.{all_deep}
+use Rattle.zig_tree.specs.declared.tree.TheConstants.{DEPTH_LIMIT}
 
 -- the kinds of tokens
 abbrev pub kinds_of : List Token → List TokenKind
@@ -40,7 +41,7 @@ pub record HoldsAll (tokens : List Token) (nodes : List Node) (root : ℕ) : Typ
   pub tree : Pieces
   pub spelled : Spells tokens nodes (kid.Node root ∷ []) 0 (length tokens) tree
   pub derived : Derives (part.Rule rule.Root ∷ []) (kinds_of tokens) [] tree
-  pub low : height tree ≤ 200
+  pub low : height tree ≤ DEPTH_LIMIT
 
 -- these kinds of token are a sentence: it can't be that they have no tree that is preferred
 unfoldable pub IsSentence : List TokenKind → Type 0

@@ -12,9 +12,9 @@ ghost use Rattle.zig_parse.specs.Passes as spec;
 
 use crate::choice::{Choice, Look, group_choice, rule_choice};
 use crate::stack::Stack;
-use crate::thread::{LIMIT, Thread, goes_as_far};
+use crate::thread::{Thread, goes_as_far};
 use std::alloc::{AllocError, Global};
-use zig_tree::{Group, Part, Rule, TokenKind, same_kind, same_part};
+use zig_tree::{DEPTH_LIMIT, Group, Part, Rule, TokenKind, same_kind, same_part};
 
 /// What became of the tokens so far.
 #[derive(Clone, Copy, Debug)]
@@ -111,7 +111,11 @@ pub fn any_waits(ready: &[Thread]) -> bool
 fn depth_for(thread: &Thread) -> u32
     ensures { result ≡ spec.depth_for thread.now }
 {
-    if thread.deep { LIMIT } else { thread.depth }
+    if thread.deep {
+        DEPTH_LIMIT
+    } else {
+        thread.depth
+    }
 }
 
 /// The lesser of two depths, where there are two.

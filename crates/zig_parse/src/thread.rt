@@ -9,10 +9,7 @@ ghost use Rattle.zig_parse.specs.Threads as threads;
 use crate::choice::Look;
 use crate::stack::Stack;
 use std::alloc::{AllocError, Global};
-use zig_tree::{Group, Part, Rule, TokenKind, same_part};
-
-/// No node of a tree lies deeper than this; the root lies at 1.
-pub const LIMIT: u32 = 200;
+use zig_tree::{DEPTH_LIMIT, Group, Part, Rule, TokenKind, same_part};
 
 /// A node that is open. One of the rules that take a single part without a node is no node yet, and
 /// not solid, until it has a token of its own or a second part.
@@ -406,7 +403,7 @@ fn reading(fits: bool) -> Move
 fn is_below_limit(depth: u32, height: u32) -> bool
     ensures { result ≡ is_deep depth height }
 {
-    depth.saturating_add(height) > LIMIT
+    depth.saturating_add(height) > DEPTH_LIMIT
 }
 
 /// Whether what one thread in a brace reads to its end another does too.

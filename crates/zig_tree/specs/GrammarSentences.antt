@@ -14,6 +14,7 @@ use Rattle.zig_tree.specs.declared.grammar.Part.{Part}
 use Rattle.zig_tree.specs.declared.grammar.Part.TheVariants as part
 use Rattle.zig_tree.specs.Kinds.{has_kind, is_group}
 use Rattle.zig_tree.specs.Grammar.{Alternative, group_rows, holds, rule_rows}
+use Rattle.zig_tree.specs.declared.tree.TheConstants.{DEPTH_LIMIT}
 
 -- tokens and nodes in a row; a node holds such a row
 pub data Pieces : Type 0 where
@@ -161,11 +162,11 @@ token_depths depth (node r inside more) = token_depths (depth + 1) inside ++ tok
 -- none of some depths is beyond the 200th node
 abbrev pub AreShallow : List ℕ → Type 0
 AreShallow [] = Unit {0}
-AreShallow (d ∷ ds) = (d ≤ 200) × AreShallow ds
+AreShallow (d ∷ ds) = (d ≤ DEPTH_LIMIT) × AreShallow ds
 
 -- these tokens are accepted: a sentence whose tree is no deeper than 200 nodes
 unfoldable pub Accepted : List TokenKind → Pieces → Type 0
-Accepted tokens tree = Sentence tokens tree × (height tree ≤ 200)
+Accepted tokens tree = Sentence tokens tree × (height tree ≤ DEPTH_LIMIT)
 
 -- some sentence, of any depth, begins with these tokens
 unfoldable pub Begins : List TokenKind → Type 0

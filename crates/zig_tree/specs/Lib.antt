@@ -8,3 +8,4 @@ pub mod Grammar
 pub mod GrammarSentences
 pub mod Productions
 pub mod Nodes
+pub mod Syntax

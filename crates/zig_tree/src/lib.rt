@@ -22,4 +22,4 @@ pub use grammar::{
 pub use productions::{group_productions, rule_productions};
 pub use tables::{KEYWORDS, Row, is_keyword, keyword_kind, symbol_at_front, word_kind};
 pub use token::{Token, TokenKind};
-pub use tree::{Kid, Node, Tree};
+pub use tree::{DEPTH_LIMIT, Kid, Node, Tree};

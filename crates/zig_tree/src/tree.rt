@@ -5,6 +5,9 @@ ghost use Rattle.zig_tree.specs.Nodes.{AreEarlier};
 use crate::grammar::Rule;
 use zw_base::{Seq, Span};
 
+/// No node of a tree lies deeper than this; the root lies at 1.
+pub const DEPTH_LIMIT: u32 = 200;
+
 /// What a node holds: a token, or another node, by its number in its list.
 #[derive(Clone, Copy, Debug, PartialEq, Eq)]
 pub enum Kid {
