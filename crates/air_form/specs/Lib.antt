@@ -1,0 +1,3 @@
+pub mod Denote
+pub mod Nodes
+pub mod Typed
