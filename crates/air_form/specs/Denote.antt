@@ -9,7 +9,7 @@ use Rattle.air_form.specs.declared.node.Callee.{Callee}
 use Rattle.air_form.specs.declared.node.Callee.TheVariants as callee
 use Rattle.air_form.specs.declared.node.AirNode.{AirNode}
 use Rattle.air_form.specs.declared.node.AirNode.TheVariants as node
-use Rattle.air_form.specs.Nodes.{IsNode}
+use Rattle.air_form.specs.Nodes.{BodyState, IsNode}
 use Rattle.air_form.specs.Typed as typed
 use Rattle.air_form.specs.Typed.{Function, Place, Scalar, Wide, Expression, Statement, Scalars, Parts, Statements, scalars_of, parts_of, statements_of, TypedBody}
 
@@ -141,16 +141,6 @@ trees_of k nodes = trees_after k [] nodes
 -- what the node with this number stands for
 unfoldable pub air_at : Known → List AirNode → AirRef → Air
 air_at k nodes r = tree_at (trees_of k nodes) r
-
--- A body, as contracts see it: nodes, and the numbers and indices that name them.
-pub record BodyState : Type 0 where
-  pub params : ℕ
-  pub result : Index
-  pub slots : List Index
-  pub stmts : List AirRef
-  pub errors : Index
-  pub refers : List Index
-  pub nodes : List AirNode
 
 -- the typed body that it stands for
 unfoldable pub body_at : Known → BodyState → TypedBody

@@ -1,5 +1,6 @@
 -- What a node is made of: the nodes that it refers to, and the indices that it has.
-use Rattle.std.specs.Prelude.{◌≡◌, ℕ, ◌<◌, List, [], ◌∷◌, ◌++◌, map, All, Some, None, slice_get}
+use Rattle.std.specs.Prelude.{◌≡◌, ℕ, ◌<◌, List, [], ◌∷◌, ◌++◌, map, All, Some, None, slice_get, length, ◌≤◌}
+use Rattle.type_form.specs.declared.index.Index.{Index}
 use Rattle.type_form.specs.Known.{Known}
 use Rattle.type_form.specs.Means.{IsTy, IsValue, IsDecl, IsInstance, IsList, AreTys}
 use Rattle.air_form.specs.declared.node.AirRef.{AirRef}
@@ -66,6 +67,35 @@ IsBelow n r = r.0 < n
 -- each node refers to earlier ones
 pub record AreEarlier (nodes : List AirNode) : Type 0 where
   pub earlier : (i : ℕ) (n : AirNode) → slice_get nodes i ≡ Some n → All (IsBelow i) (refs_of n)
+
+-- A builder, as contracts see it: the nodes so far, the types of the slots, the statements of the lists that are
+-- open, the outer lists first, and how many labels there are.
+pub record AirState : Type 0 where
+  pub nodes : List AirNode
+  pub slots : List Index
+  pub statements : List AirRef
+  pub labels : ℕ
+
+-- each node refers to earlier ones, and each statement is a node
+pub record IsBuilt (b : AirState) : Type 0 where
+  pub earlier : AreEarlier b.nodes
+  pub statements : All (IsBelow (length b.nodes)) b.statements
+
+-- A body, as contracts see it: nodes, and the numbers and indices that name them.
+pub record BodyState : Type 0 where
+  pub params : ℕ
+  pub result : Index
+  pub slots : List Index
+  pub stmts : List AirRef
+  pub errors : Index
+  pub refers : List Index
+  pub nodes : List AirNode
+
+-- each node refers to earlier ones, each statement is a node, and the parameters have slots
+pub record IsWhole (b : BodyState) : Type 0 where
+  pub earlier : AreEarlier b.nodes
+  pub stmts : All (IsBelow (length b.nodes)) b.stmts
+  pub params : b.params ≤ length b.slots
 
 -- the indices of a function that is called denote what is wanted there
 abbrev pub IsCallee : Known → Callee → Type 0

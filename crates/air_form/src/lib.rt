@@ -7,8 +7,12 @@
 //! The crate stands on `zw_base` and `type_form`.
 #![tactic(auto)]
 
+mod body;
+mod builder;
 mod node;
 mod operator;
 
+pub use body::Body;
+pub use builder::AirBuilder;
 pub use node::{AirNode, AirRef, Callee, Part};
 pub use operator::{BinOp, CmpOp, Conversion, UnOp};
