@@ -60,13 +60,14 @@ refs_of (node.Return (Some value)) = value ∷ []
 refs_of node.Trap = []
 refs_of (node.Check condition) = condition ∷ []
 
--- a node below this number
-abbrev pub IsBelow : ℕ → AirRef → Type 0
-IsBelow n r = r.0 < n
+-- each is a node below this number
+abbrev pub AreBelow : ℕ → List AirRef → Type 0
+AreBelow n [] = Unit {0}
+AreBelow n (r ∷ rs) = (r.0 < n) × AreBelow n rs
 
 -- each node refers to earlier ones
 pub record AreEarlier (nodes : List AirNode) : Type 0 where
-  pub earlier : (i : ℕ) (n : AirNode) → slice_get nodes i ≡ Some n → All (IsBelow i) (refs_of n)
+  pub earlier : (i : ℕ) (n : AirNode) → slice_get nodes i ≡ Some n → AreBelow i (refs_of n)
 
 -- A builder, as contracts see it: the nodes so far, the types of the slots, the statements of the lists that are
 -- open, the outer lists first, and how many labels there are.
@@ -79,7 +80,7 @@ pub record AirState : Type 0 where
 -- each node refers to earlier ones, and each statement is a node
 pub record IsBuilt (b : AirState) : Type 0 where
   pub earlier : AreEarlier b.nodes
-  pub statements : All (IsBelow (length b.nodes)) b.statements
+  pub statements : AreBelow (length b.nodes) b.statements
 
 -- A body, as contracts see it: nodes, and the numbers and indices that name them.
 pub record BodyState : Type 0 where
@@ -94,7 +95,7 @@ pub record BodyState : Type 0 where
 -- each node refers to earlier ones, each statement is a node, and the parameters have slots
 pub record IsWhole (b : BodyState) : Type 0 where
   pub earlier : AreEarlier b.nodes
-  pub stmts : All (IsBelow (length b.nodes)) b.stmts
+  pub stmts : AreBelow (length b.nodes) b.stmts
   pub params : b.params ≤ length b.slots
 
 -- the indices of a function that is called denote what is wanted there

@@ -1,7 +1,7 @@
 // The typed body of an instance.
-ghost use Rattle.std.specs.Prelude.{◌≡◌, ◌≤◌, All, length, slice_get};
+ghost use Rattle.std.specs.Prelude.{◌≡◌, ◌≤◌, length, slice_get};
 ghost use Rattle.std.specs.Option.{option_copied};
-ghost use Rattle.air_form.specs.Nodes.{AreEarlier, IsBelow};
+ghost use Rattle.air_form.specs.Nodes.{AreEarlier, AreBelow};
 
 use crate::node::{AirNode, AirRef};
 use std::marker::Model;
@@ -58,7 +58,7 @@ impl Body {
         nodes: Vec<AirNode>,
     ) -> Body
         requires earlier { AreEarlier nodes.items }
-        requires below { All (IsBelow (length nodes.items)) stmts.items }
+        requires below { AreBelow (length nodes.items) stmts.items }
         requires room { params ≤ length slots.items }
         ensures { result ≡ record { params = params; result = result_ty; slots = slots.items; stmts = stmts.items; errors = errors; refers = refers.items; nodes = nodes.items } }
     {
@@ -90,7 +90,7 @@ impl Body {
     /// The statements.
     pub fn stmts(&self) -> &[AirRef]
         ensures value { result.now ≡ self.now.stmts }
-        ensures below { All (IsBelow (length self.now.nodes)) self.now.stmts }
+        ensures below { AreBelow (length self.now.nodes) self.now.stmts }
     {
         self.stmts.as_slice()
     }

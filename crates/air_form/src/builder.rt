@@ -1,7 +1,7 @@
 // A typed body as it is made: nodes are only put behind others.
-ghost use Rattle.std.specs.Prelude.{◌≡◌, ◌≢◌, ◌+◌, ◌≤◌, [], ◌∷◌, ◌++◌, length, take, drop, All, IfOk, OnErr, OnOk, slice_get};
+ghost use Rattle.std.specs.Prelude.{◌≡◌, ◌≢◌, ◌+◌, ◌<◌, ◌≤◌, [], ◌∷◌, ◌++◌, length, take, drop, IfOk, OnErr, OnOk, slice_get};
 ghost use Rattle.std.specs.Option.{option_copied};
-ghost use Rattle.air_form.specs.Nodes.{refs_of, AreEarlier, IsBelow};
+ghost use Rattle.air_form.specs.Nodes.{refs_of, AreEarlier, AreBelow};
 
 use crate::body::Body;
 use crate::node::{AirNode, AirRef};
@@ -47,7 +47,7 @@ impl AirBuilder {
 
     /// Puts a node behind the others, and answers its number.
     pub fn push(&mut self, node: AirNode) -> Result<AirRef, AllocError>
-        requires { All (IsBelow (length self.old.nodes)) (refs_of node) }
+        requires { AreBelow (length self.old.nodes) (refs_of node) }
         ensures number { IfOk result (λ r. r.0 ≡ length self.old.nodes) }
         ensures nodes { OnOk result (self.new ≡ record self.old { nodes = self.old.nodes ++ node ∷ [] }) }
         ensures unchanged { OnErr result (self.new ≡ self.old) }
@@ -109,7 +109,7 @@ impl AirBuilder {
 
     /// Puts a statement at the end of the innermost list that is open.
     pub fn add_statement(&mut self, statement: AirRef) -> Result<(), AllocError>
-        requires { IsBelow (length self.old.nodes) statement }
+        requires { statement.0 < length self.old.nodes }
         ensures statements { OnOk result (self.new ≡ record self.old { statements = self.old.statements ++ statement ∷ [] }) }
         ensures unchanged { OnErr result (self.new ≡ self.old) }
     {
@@ -128,7 +128,7 @@ impl AirBuilder {
     pub fn close_list(&mut self, start: usize) -> Result<Seq<AirRef>, AllocError>
         requires { start ≤ length self.old.statements }
         ensures list { IfOk result (λ list. list ≡ drop start self.old.statements) }
-        ensures below { IfOk result (λ list. All (IsBelow (length self.old.nodes)) list) }
+        ensures below { IfOk result (λ list. AreBelow (length self.old.nodes) list) }
         ensures statements { OnOk result (self.new ≡ record self.old { statements = take start self.old.statements }) }
         ensures unchanged { OnErr result (self.new ≡ self.old) }
     {
