@@ -9,10 +9,12 @@
 
 mod body;
 mod builder;
+mod laws;
 mod node;
 mod operator;
 
 pub use body::Body;
 pub use builder::AirBuilder;
+pub use laws::{growing_keeps_bodies, pushing_keeps_what_stands};
 pub use node::{AirNode, AirRef, Callee, Part};
 pub use operator::{BinOp, CmpOp, Conversion, UnOp};
