@@ -35,18 +35,18 @@ slice_get-push [] x y (suc i) e = absurd (cc)
 slice_get-push (z ∷ xs) x y zero e = inl e
 slice_get-push (z ∷ xs) x y (suc i) e =
     elim (slice_get-push xs x y i e) as (λ _. (slice_get xs i ≡ Some y) ⊎ ((suc i ≡ length (z ∷ xs)) × (x ≡ y))) [
-      inl h ↦ inl h
-    | inr h ↦ inr (omega (arith, h.0), h.1)
+      | inl h ↦ inl h
+      | inr h ↦ inr (omega (arith, h.0), h.1)
     ]
 
 pub AreEarlier-push : (nodes : List AirNode) (n : AirNode) → AreEarlier nodes → AreBelow (length nodes) (refs_of n) → AreEarlier (nodes ++ n ∷ [])
-AreEarlier-push nodes n e b = record { earlier = λ i m at.
-    elim (slice_get-push nodes n m i at) as (λ _. AreBelow i (refs_of m)) [
-      inl h ↦ e.earlier i m h
-    | inr h ↦ subst (λ (x : AirNode). AreBelow i (refs_of x)) h.1 (subst (λ (k : ℕ). AreBelow k (refs_of n)) (sym h.0) b)
-    ] }
-
-
+AreEarlier-push nodes n e b = record {
+  earlier = λ i m at.
+      elim (slice_get-push nodes n m i at) as (λ _. AreBelow i (refs_of m)) [
+        | inl h ↦ e.earlier i m h
+        | inr h ↦ subst (λ (x : AirNode). AreBelow i (refs_of x)) h.1 (subst (λ (k : ℕ). AreBelow k (refs_of n)) (sym h.0) b)
+      ];
+}
 
 -- a builder with a node more
 pub IsBuilt-push : (b : AirState) (n : AirNode) → IsBuilt b → AreBelow (length b.nodes) (refs_of n) → IsBuilt (record b { nodes = b.nodes ++ n ∷ [] })

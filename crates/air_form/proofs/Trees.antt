@@ -50,8 +50,8 @@ put k nodes n r h =
     let e : trees_of k (nodes ++ n ∷ []) ≡ trees_of k nodes ++ over_nodes k (air_at k nodes) n ∷ [] = put_node k nodes n in
     let same : r.0 ≡ length (trees_of k nodes) = h ∙ sym (trees_length k nodes) in
     ap (λ (l : List Air). tree_at l r) e
-        ∙ ap (λ (i : ℕ). slice_index_or (trees_of k nodes ++ over_nodes k (air_at k nodes) n ∷ []) i (of_statement typed.trap)) same
-        ∙ get_or-append_seam (trees_of k nodes) (over_nodes k (air_at k nodes) n) [] (of_statement typed.trap)
+    ∙ ap (λ (i : ℕ). slice_index_or (trees_of k nodes ++ over_nodes k (air_at k nodes) n ∷ []) i (of_statement typed.trap)) same
+    ∙ get_or-append_seam (trees_of k nodes) (over_nodes k (air_at k nodes) n) [] (of_statement typed.trap)
 
 kept_on : (k : Known) (nodes : List AirNode) (n : AirNode) (rs : List AirRef) → AreBelow (length nodes) rs → SameOn (air_at k (nodes ++ n ∷ [])) (air_at k nodes) rs
 kept_on k nodes n [] h = tt
@@ -111,7 +111,7 @@ node_tree k nodes r n h e =
     let all : List Air = trees_after k [] nodes in
     let same : 0 + r.0 ≡ r.0 = zero-add r.0 in
     let front : number all r.0 ≡ over_nodes k (tree_at (take r.0 all)) n =
-        subst (λ (j : ℕ). number all j ≡ over_nodes k (tree_at (take j all)) n) same (at_node k [] nodes r.0 n e) in
+    subst (λ (j : ℕ). number all j ≡ over_nodes k (tree_at (take j all)) n) same (at_node k [] nodes r.0 n e) in
     front ∙ over-same k (tree_at (take r.0 all)) (tree_at all) n (front_on all r.0 (refs_of n) (h.earlier r.0 n e))
 
 -- ---- more that is known

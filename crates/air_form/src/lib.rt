@@ -12,6 +12,8 @@ mod builder;
 mod laws;
 mod node;
 mod operator;
+#[cfg(test)]
+mod tests;
 
 pub use body::Body;
 pub use builder::AirBuilder;
