@@ -1,13 +1,15 @@
 -- The core tree of a file, and what is asked of it: the tree of a part, and a name in a container. A container
 -- goes by its keyword's token, a declaration by its name's and a block by its first one; the file itself is the
 -- container 0.
-use Rattle.std.specs.Prelude.{ℕ, Bool, ◌&&◌, nat_eq, List, [], ◌∷◌, slice_get, Option, Some, None, if◌then◌else◌}
+use Rattle.std.specs.Prelude.{ℕ, Bool, ◌&&◌, nat_eq, List, [], ◌∷◌, length, map, slice_get, Option, Some, None, if◌then◌else◌}
 use Rattle.std.specs.Option.{option_or, option_map}
+use Rattle.std.specs.List.{filter}
 use Rattle.std.specs.Str.{bytes_eq}
 use Rattle.zir_form.specs.declared.zir.Part.{Part}
 use Rattle.zir_form.specs.declared.zir.Part.TheVariants as part
 use Rattle.zir_form.specs.declared.zir.NameRef.{NameRef}
 use Rattle.zir_form.specs.declared.zir.ContainerRef.{ContainerRef}
+use Rattle.zir_form.specs.declared.exports.FileExports.{FileExports}
 use Rattle.zir_form.specs.Core.{Core}
 
 -- A declaration: the container that it is a member of, the token of its name, the name, whether other files
@@ -74,7 +76,7 @@ is_container token c = nat_eq c.token token
 abbrev pub container_with : List Container → ℕ → Option Container
 container_with containers token = last_with (is_container token) containers
 
--- The text of a part, as its core tree, and where it begins in the file.
+-- A part in its file: its core tree, and where its text begins.
 pub record PartText : Type 0 where
   pub start : ℕ
   pub tree : Core
@@ -98,20 +100,33 @@ abbrev pub block_text : Option Block → Option PartText
 block_text None = None
 block_text (Some b) = Some (text_at b.start b.tree)
 
--- the text of a part, if there is such a part
-unfoldable pub part_of : CoreFile → Part → Option PartText
+-- a part in its file, if there is such a part
+abbrev pub part_of : CoreFile → Part → Option PartText
 part_of f (part.Head container name) = head_text (declaration_named f.declarations container.0 name)
 part_of f (part.Whole container name) = whole_text (declaration_named f.declarations container.0 name)
 part_of f (part.Fields container) = fields_text (container_with f.containers container.0)
 part_of f (part.Block number) = block_text (slice_get f.blocks number)
 
--- A name's answer: the declaration by the token of its name, where that begins in the file, and whether it is `pub`.
-abbrev pub name_answer : Option Declaration → Option NameRef
-name_answer None = None
-name_answer (Some d) = Some (record { token = d.token; name_start = d.name_start; is_pub = d.is_pub })
+-- The answer to who asks for the text of a part: its tree, if there is such a part. Nothing of it tells where
+-- the part stands in the file.
+unfoldable pub tree_of : CoreFile → Part → Option Core
+tree_of f part = option_map (λ t. t.tree) (part_of f part)
+
+-- where a part begins in the file, which places the diagnostics of the part
+unfoldable pub start_of : CoreFile → Part → Option ℕ
+start_of f part = option_map (λ t. t.start) (part_of f part)
+
+-- The answer to who asks for a name in a container: the container has a declaration of this name, and whether
+-- other files may use it. Nothing of it tells where the declaration stands.
+abbrev pub name_ref : Declaration → NameRef
+name_ref d = record { is_pub = d.is_pub }
 
 unfoldable pub name_of : CoreFile → ContainerRef → List ℕ → Option NameRef
-name_of f container name = name_answer (declaration_named f.declarations container.0 name)
+name_of f container name = option_map name_ref (declaration_named f.declarations container.0 name)
+
+-- where the name of a declaration begins in the file, which places the diagnostics of the declaration
+unfoldable pub name_start_of : CoreFile → ContainerRef → List ℕ → Option ℕ
+name_start_of f container name = option_map (λ d. d.name_start) (declaration_named f.declarations container.0 name)
 
 -- the container of an ordinal in a declaration, or in a block
 abbrev pub ordinal_in : List ℕ → ℕ → Option ContainerRef
@@ -130,3 +145,11 @@ container_of f container name ordinal = ordinal_in (declared_containers (declara
 
 unfoldable pub container_of_block : CoreFile → ℕ → ℕ → Option ContainerRef
 container_of_block f number ordinal = ordinal_in (block_containers (slice_get f.blocks number)) ordinal
+
+-- The answer to who imports a file: the functions that it exports at its top level, and how many blocks it has there
+-- that are evaluated at comptime.
+abbrev pub is_exported : Declaration → Bool
+is_exported d = nat_eq d.container 0 && d.is_export
+
+unfoldable pub exports_of : CoreFile → FileExports
+exports_of f = record { functions = map (λ d. d.name) (filter is_exported f.declarations); blocks = length f.blocks }

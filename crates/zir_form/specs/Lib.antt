@@ -6,3 +6,4 @@ pub mod Core
 pub mod Lines
 pub mod File
 pub mod Tables
+pub mod Front

@@ -1,6 +1,7 @@
 -- What the tables of a file stand for, and how they are searched.
 use Rattle.std.specs.Prelude.{◌≡◌, ℕ, ◌+◌, Bool, ◌&&◌, nat_eq, List, [], ◌∷◌, map, slice_get, Option, None, Some, Vec, if◌then◌else◌}
 use Rattle.std.specs.Option.{option_or, option_map}
+use Rattle.std.specs.List.{filter}
 use Rattle.std.specs.Str.{bytes_eq}
 use Rattle.std.specs.Ordering.{nat_cmp}
 use Rattle.std.specs.BTreeMap.{BTreeMap, get}
@@ -14,7 +15,7 @@ use Rattle.zir_form.specs.declared.form.Form.{Form}
 use Rattle.zir_form.specs.declared.zir.Part.{Part}
 use Rattle.zir_form.specs.declared.zir.Part.TheVariants as part
 use Rattle.zir_form.specs.declared.zir.PartRef.{PartRef}
-use Rattle.zir_form.specs.declared.zir.NameRef.{NameRef}
+use Rattle.zir_form.specs.declared.zir.PartRow.{PartRow}
 use Rattle.zir_form.specs.declared.zir.ContainerRef.{ContainerRef}
 use Rattle.zir_form.specs.File.{CoreFile, Declaration, Container, Block, Import, PartText, last_with, text_at, ordinal_in}
 use Rattle.zir_form.specs.Lines.{tree_at, trees_of, core_at}
@@ -78,43 +79,35 @@ is_container_row token r = nat_eq r.token token
 abbrev pub row_with : List ContainerRow → ℕ → Option ContainerRow
 row_with rows token = last_with (is_container_row token) rows
 
-abbrev pub part_ref : ℕ → ℕ → ℕ → PartRef
-part_ref line start fingerprint = record { line = line; start = start; fingerprint = fingerprint }
+abbrev pub part_row : ℕ → ℕ → PartRow
+part_row line start = record { line = line; start = start }
 
-abbrev pub head_by : DeclarationRow → Option ℕ → Option PartRef
+abbrev pub head_by : DeclarationRow → Option ℕ → Option PartRow
 head_by r None = None
-head_by r (Some line) = Some (part_ref line r.start r.fingerprint)
+head_by r (Some line) = Some (part_row line r.start)
 
-abbrev pub head_ref : Option DeclarationRow → Option PartRef
-head_ref None = None
-head_ref (Some r) = head_by r r.head
+abbrev pub head_row : Option DeclarationRow → Option PartRow
+head_row None = None
+head_row (Some r) = head_by r r.head
 
-abbrev pub whole_ref : Option DeclarationRow → Option PartRef
-whole_ref None = None
-whole_ref (Some r) = Some (part_ref r.whole r.start r.fingerprint)
+abbrev pub whole_row : Option DeclarationRow → Option PartRow
+whole_row None = None
+whole_row (Some r) = Some (part_row r.whole r.start)
 
-abbrev pub fields_ref : Option ContainerRow → Option PartRef
-fields_ref None = None
-fields_ref (Some r) = Some (part_ref r.fields r.start r.fingerprint)
+abbrev pub fields_row : Option ContainerRow → Option PartRow
+fields_row None = None
+fields_row (Some r) = Some (part_row r.fields r.start)
 
-abbrev pub block_ref : Option BlockRow → Option PartRef
-block_ref None = None
-block_ref (Some r) = Some (part_ref r.line r.start r.fingerprint)
+abbrev pub block_row : Option BlockRow → Option PartRow
+block_row None = None
+block_row (Some r) = Some (part_row r.line r.start)
 
--- where a part's tree is
-unfoldable pub part_in : ZirState → Part → Option PartRef
-part_in z (part.Head container name) = head_ref (row_named z.declarations container.0 name)
-part_in z (part.Whole container name) = whole_ref (row_named z.declarations container.0 name)
-part_in z (part.Fields container) = fields_ref (row_with z.containers container.0)
-part_in z (part.Block number) = block_ref (slice_get z.blocks number)
-
--- the declaration that a name has in a container
-abbrev pub name_ref : Option DeclarationRow → Option NameRef
-name_ref None = None
-name_ref (Some r) = Some (record { token = r.token; name_start = r.name_start; is_pub = r.is_pub })
-
-unfoldable pub name_in : ZirState → ContainerRef → List ℕ → Option NameRef
-name_in z container name = name_ref (row_named z.declarations container.0 name)
+-- where a part's tree is, and where its text begins
+unfoldable pub part_in : ZirState → Part → Option PartRow
+part_in z (part.Head container name) = head_row (row_named z.declarations container.0 name)
+part_in z (part.Whole container name) = whole_row (row_named z.declarations container.0 name)
+part_in z (part.Fields container) = fields_row (row_with z.containers container.0)
+part_in z (part.Block number) = block_row (slice_get z.blocks number)
 
 -- the containers of a declaration, and of a block
 abbrev pub containers_declared : Option DeclarationRow → List ℕ
@@ -125,16 +118,21 @@ abbrev pub containers_of_block : Option BlockRow → List ℕ
 containers_of_block None = []
 containers_of_block (Some r) = r.containers
 
-unfoldable pub container_in : ZirState → ContainerRef → List ℕ → ℕ → Option ContainerRef
-container_in z container name ordinal = ordinal_in (containers_declared (row_named z.declarations container.0 name)) ordinal
-
-unfoldable pub container_in_block : ZirState → ℕ → ℕ → Option ContainerRef
-container_in_block z number ordinal = ordinal_in (containers_of_block (slice_get z.blocks number)) ordinal
-
--- the text that a part's place stands for
-abbrev pub text_of : List Form → Option PartRef → Option PartText
+-- the part that a line and a place stand for
+abbrev pub text_of : List Form → Option PartRow → Option PartText
 text_of lines None = None
 text_of lines (Some r) = Some (text_at r.start (core_at lines r.line))
+
+-- the tree that an answer stands for
+abbrev pub tree_by : List Form → Option PartRef → Option Core
+tree_by lines answer = option_map (λ r. core_at lines r.line) answer
+
+-- the names of the rows that are exported at the top level
+abbrev pub is_exported_row : DeclarationRow → Bool
+is_exported_row r = nat_eq r.container 0 && r.is_export
+
+unfoldable pub exported_names : List DeclarationRow → List (List ℕ)
+exported_names rows = map (λ (r : DeclarationRow). r.name) (filter is_exported_row rows)
 
 -- ---- the maps beside the tables
 

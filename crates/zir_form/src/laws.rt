@@ -1,13 +1,7 @@
 // Laws of the definitions: contracts of functions that do nothing.
 ghost use Rattle.std.specs.Prelude.{◌≡◌, ◌↔◌, ℕ, ◌<◌, List, [], ◌∷◌, ◌++◌, length, take, Option, Some, slice_index_or, slice_get};
 ghost use Rattle.zir_form.specs.declared.form.Form.{Form};
-ghost use Rattle.zir_form.specs.declared.zir.ContainerRef.{ContainerRef};
-ghost use Rattle.zir_form.specs.declared.zir.Part.{Part};
-ghost use Rattle.zir_form.specs.File as file;
-ghost use Rattle.zir_form.specs.File.{part_of};
 ghost use Rattle.zir_form.specs.Lines.{core_at, form_tree, over_cores, tree_at, trees_of};
-ghost use Rattle.zir_form.specs.Tables as table;
-ghost use Rattle.zir_form.specs.Tables.{ZirState, container_in, container_in_block, file_in, part_in, text_of};
 ghost use Rattle.zig_tree.specs.declared.token.Token.{Token};
 ghost use Rattle.zig_tree.specs.declared.token.TokenKind.TheVariants.{Identifier};
 ghost use Rattle.zir_form.specs.Names.{name_of, first_name, first_names};
@@ -19,17 +13,6 @@ pub fn first_tokens_tell_names()
     ensures same { (text : List ℕ) (tokens : List Token) (i j : ℕ) (a b : Token) → slice_get tokens i ≡ Some a → slice_get tokens j ≡ Some b → a.kind ≡ Identifier → b.kind ≡ Identifier → (first_name text tokens i ≡ first_name text tokens j) ↔ (name_of text a ≡ name_of text b) }
     ensures each { (text : List ℕ) (tokens : List Token) (i : ℕ) → slice_index_or (first_names text tokens) i i ≡ first_name text tokens i }
     ensures within { (text : List ℕ) (tokens : List Token) (i : ℕ) → i < length tokens → first_name text tokens i < length tokens }
-{}
-
-/// What a Zir answers is the answer of the definition for the core file that it stands for: the tree
-/// of a part and where it begins, a name in a container, and a container by its ordinal. `None` comes
-/// exactly where the file has no such part, name or container, and no fingerprint counts.
-#[tactic(auto, using(crate::proofs::FileLaws::part_law, crate::proofs::FileLaws::name_law, crate::proofs::FileLaws::container_law, crate::proofs::FileLaws::block_law))]
-pub fn parts_are_those_of_the_file()
-    ensures part { (z : ZirState) (p : Part) → text_of z.lines (part_in z p) ≡ part_of (file_in z) p }
-    ensures name { (z : ZirState) (c : ContainerRef) (name : List ℕ) → table.name_in z c name ≡ file.name_of (file_in z) c name }
-    ensures container { (z : ZirState) (c : ContainerRef) (name : List ℕ) (ordinal : ℕ) → container_in z c name ordinal ≡ file.container_of (file_in z) c name ordinal }
-    ensures block { (z : ZirState) (number ordinal : ℕ) → container_in_block z number ordinal ≡ file.container_of_block (file_in z) number ordinal }
 {}
 
 /// The tree of a line is its form over the trees of the lines before it, and a line more changes no

@@ -5,17 +5,21 @@
 //! (`specs/Core.antt`, one form a variant of `Form`) is kept as lines: a line is a form over earlier lines,
 //! and `core_at` is the tree that it stands for, so that what stands at many places is stored once. A `Zir`
 //! has the lines of a file and tables of its declarations, containers and blocks; `file_in` is the file
-//! that it stands for (`specs/File.antt`), and its answers are those of the file
-//! (`parts_are_those_of_the_file`).
+//! that it stands for (`specs/File.antt`). A `Front` is what a file is to the layers above: its diagnostics,
+//! and its core tree where its text is a sentence (`specs/Front.antt`); its answers to who asks for a part's
+//! text, for a name or for what it exports have no place of the file in them.
 //! Public calls: `token_bytes`, `name_of`, `Names::of`, `primitive_of`; `Lines::put`, `Zir::of`, `Zir::part`,
-//! `Zir::name_in`, `Zir::container_in`; `quoted_value` and the
-//! calls on bytes serve the crate that reads literals. The crate stands on `zw_base` and `zig_tree`.
+//! `Zir::name_in`, `Zir::container_in`, `exports_of`, and the same of a `Front`; `Zir::part_start` and
+//! `Zir::name_start` for the places of diagnostics; `quoted_value` and the calls on bytes serve the crate that
+//! reads literals. The crate stands on `zw_base` and `zig_tree`.
 #![tactic(auto)]
 
 mod build;
 mod bytes;
 mod escape;
+mod exports;
 mod form;
+mod front;
 mod laws;
 mod lines;
 mod name;
@@ -29,8 +33,10 @@ mod zir;
 
 pub use bytes::{DigitRun, behind, byte_at, digits_at_front, is_within};
 pub use escape::{letter_value, quoted_value};
+pub use exports::{FileExports, exports_of};
 pub use form::Form;
-pub use laws::{first_tokens_tell_names, lines_are_over_earlier_ones, parts_are_those_of_the_file};
+pub use front::Front;
+pub use laws::{first_tokens_tell_names, lines_are_over_earlier_ones};
 pub use lines::Lines;
 pub use name::{name_of, token_bytes};
 pub use names::Names;

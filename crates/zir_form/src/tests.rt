@@ -1,7 +1,7 @@
 // Names as they are written in several ways, primitives, and what a Zir answers.
 use crate::{
-    ContainerRef, ContainerRow, DeclarationRow, Form, Lines, Names, Part, Primitive, Zir, name_of,
-    primitive_of,
+    ContainerRef, ContainerRow, DeclarationRow, Form, Lines, NameRef, Names, Part, PartRef,
+    Primitive, Zir, name_of, primitive_of,
 };
 use std::test::Fail;
 use zig_tree::{Token, TokenKind};
@@ -111,13 +111,8 @@ fn parts_and_names(rt: HostRuntime) -> Result<(), Fail> {
     let zir = Zir::of(rt.alloc(), lines, declarations, containers, blocks, imports)?;
     let name = b"a".as_slice();
     let inner = ContainerRef(7);
-    match zir.name_in(inner, name) {
-        Some(found) => {
-            assert_eq!(rt; found.token, 1);
-            assert_eq!(rt; found.is_pub, false);
-        }
-        None => assert_eq!(rt; 0, 1),
-    }
+    assert_eq!(rt; zir.name_in(inner, name), Some(NameRef { is_pub: false }));
+    assert_eq!(rt; zir.name_start(inner, name), Some(26));
     assert_eq!(rt; zir.name_in(ContainerRef(8), name).is_none(), true);
     assert_eq!(rt; zir.name_in(inner, b"b".as_slice()).is_none(), true);
     let part = Part::Whole {
@@ -125,12 +120,10 @@ fn parts_and_names(rt: HostRuntime) -> Result<(), Fail> {
         name: Bytes::of(Vec::from_slice(rt.alloc(), name)?),
     };
     match zir.part(&part) {
-        Some(text) => {
-            assert_eq!(rt; text.line, 2);
-            assert_eq!(rt; text.start, 20);
-        }
+        Some(PartRef { line }) => assert_eq!(rt; line, 2),
         None => assert_eq!(rt; 0, 1),
     }
+    assert_eq!(rt; zir.part_start(&part), Some(20));
     assert_eq!(rt; zir.part(&Part::Block { number: 0 }).is_none(), true);
     assert_eq!(rt;
         zir.part(&Part::Fields { container: inner }).is_some(),

@@ -2,6 +2,8 @@
 ghost use Rattle.std.specs.Prelude.{◌≡◌, slice_get, IfOk};
 ghost use Rattle.std.specs.Option.{option_copied};
 ghost use Rattle.zir_form.specs.File as file;
+ghost use Rattle.zir_form.specs.File.{container_of, container_of_block, name_of, name_start_of, start_of, tree_of};
+ghost use Rattle.zir_form.specs.Tables.{file_in, tree_by};
 ghost use Rattle.zir_form.specs.Tables as table;
 
 use crate::build::{members_of, places_of};
@@ -40,23 +42,25 @@ pub enum Part {
     },
 }
 
-/// The text of a part: the line of its tree, which is the answer, where it begins in the file, and a
-/// number made of its text. The last two count for nothing where answers are compared: the place serves
-/// to point at a diagnostic, and the number may differ for equal trees.
+/// The answer to who asks for the text of a part: the line of its tree. Lines of two files are compared by
+/// the trees that they stand for, and nothing else of a part counts.
 #[derive(Clone, Copy, Debug)]
 pub struct PartRef {
     pub line: u32,
-    pub start: u32,
-    pub fingerprint: u64,
 }
 
-/// A declaration that a name has in a container, and whether other files may use it, which is the answer;
-/// and where it stands: the token of its name, and where that begins in the file.
-#[derive(Clone, Copy, Debug)]
+/// The answer to who asks for a name in a container that has a declaration of this name: whether other
+/// files may use it.
+#[derive(Clone, Copy, Debug, PartialEq, Eq)]
 pub struct NameRef {
-    pub token: u32,
-    pub name_start: u32,
     pub is_pub: bool,
+}
+
+/// A part in the tables: the line of its tree, and where its text begins in the file.
+#[derive(Clone, Copy, Debug)]
+struct PartRow {
+    line: u32,
+    start: u32,
 }
 
 /// The core tree of a file: lines, and tables of what the file declares, which name the lines of its parts.
@@ -153,10 +157,32 @@ impl Zir {
         }
     }
 
-    /// The text of a part, if there is such a part. `parts_are_those_of_the_file` says which tree its line
-    /// stands for.
-    #[tactic(auto, unfolding(crate::specs::Tables::part_in))]
+    /// The text of a part, as its tree, if there is such a part.
+    #[tactic(auto, using(crate::proofs::FileLaws::tree_law))]
     pub fn part(&self, part: &Part) -> Option<PartRef>
+        ensures { tree_by self.now.lines result ≡ tree_of (file_in self.now) part.now }
+    {
+        match self.row(part) {
+            Some(PartRow { line, start: _ }) => Some(PartRef { line }),
+            None => None,
+        }
+    }
+
+    /// Where a part begins in the file, if there is such a part: in bytes from its start. A place in the tree
+    /// of the part is counted from there.
+    #[tactic(auto, using(crate::proofs::FileLaws::start_law))]
+    pub fn part_start(&self, part: &Part) -> Option<u32>
+        ensures { result ≡ start_of (file_in self.now) part.now }
+    {
+        match self.row(part) {
+            Some(PartRow { line: _, start }) => Some(start),
+            None => None,
+        }
+    }
+
+    /// A part in the tables.
+    #[tactic(auto, unfolding(crate::specs::Tables::part_in))]
+    fn row(&self, part: &Part) -> Option<PartRow>
         ensures { result ≡ table.part_in self.now part.now }
     {
         match part {
@@ -168,8 +194,8 @@ impl Zir {
     }
 
     /// The head of a function.
-    fn head(&self, container: ContainerRef, name: &[u8]) -> Option<PartRef>
-        ensures { result ≡ table.head_ref (table.row_named self.now.declarations container.0 name.now) }
+    fn head(&self, container: ContainerRef, name: &[u8]) -> Option<PartRow>
+        ensures { result ≡ table.head_row (table.row_named self.now.declarations container.0 name.now) }
     {
         match self.declaration(container, name) {
             Some(row) => head_of(row),
@@ -178,8 +204,8 @@ impl Zir {
     }
 
     /// The whole text of a declaration.
-    fn whole(&self, container: ContainerRef, name: &[u8]) -> Option<PartRef>
-        ensures { result ≡ table.whole_ref (table.row_named self.now.declarations container.0 name.now) }
+    fn whole(&self, container: ContainerRef, name: &[u8]) -> Option<PartRow>
+        ensures { result ≡ table.whole_row (table.row_named self.now.declarations container.0 name.now) }
     {
         match self.declaration(container, name) {
             Some(row) => Some(whole_of(row)),
@@ -188,8 +214,8 @@ impl Zir {
     }
 
     /// The fields of a container.
-    fn fields(&self, container: ContainerRef) -> Option<PartRef>
-        ensures { result ≡ table.fields_ref (table.row_with self.now.containers container.0) }
+    fn fields(&self, container: ContainerRef) -> Option<PartRow>
+        ensures { result ≡ table.fields_row (table.row_with self.now.containers container.0) }
     {
         match self.container(container) {
             Some(row) => Some(fields_of(row)),
@@ -198,39 +224,46 @@ impl Zir {
     }
 
     /// The text of a block.
-    fn block(&self, number: u32) -> Option<PartRef>
-        ensures { result ≡ table.block_ref (slice_get self.now.blocks number) }
+    fn block(&self, number: u32) -> Option<PartRow>
+        ensures { result ≡ table.block_row (slice_get self.now.blocks number) }
     {
-        match self.blocks.get(number as usize) {
+        match block_at(self.blocks.as_slice(), number) {
             Some(row) => Some(block_of(row)),
             None => None,
         }
     }
 
-    /// The declaration that a name has in a container, if it has one there; fields have none.
-    #[tactic(auto, unfolding(crate::specs::Tables::name_in))]
+    /// Whether a container has a declaration of this name, and of which kind it is; fields have none.
+    #[tactic(auto, using(crate::proofs::FileLaws::name_law))]
     pub fn name_in(&self, container: ContainerRef, name: &[u8]) -> Option<NameRef>
-        ensures { result ≡ table.name_in self.now container name.now }
+        ensures { result ≡ name_of (file_in self.now) container name.now }
     {
         match self.declaration(container, name) {
-            Some(row) => Some(NameRef {
-                token: row.token,
-                name_start: row.name_start,
-                is_pub: row.is_pub,
-            }),
+            Some(row) => Some(NameRef { is_pub: row.is_pub }),
+            None => None,
+        }
+    }
+
+    /// Where the name of a declaration begins in the file, in bytes from its start.
+    #[tactic(auto, using(crate::proofs::FileLaws::name_start_law))]
+    pub fn name_start(&self, container: ContainerRef, name: &[u8]) -> Option<u32>
+        ensures { result ≡ name_start_of (file_in self.now) container name.now }
+    {
+        match self.declaration(container, name) {
+            Some(row) => Some(row.name_start),
             None => None,
         }
     }
 
     /// The container of an ordinal in a declaration.
-    #[tactic(auto, unfolding(crate::specs::Tables::container_in))]
+    #[tactic(auto, using(crate::proofs::FileLaws::container_law))]
     pub fn container_in(
         &self,
         container: ContainerRef,
         name: &[u8],
         ordinal: u32,
     ) -> Option<ContainerRef>
-        ensures { result ≡ table.container_in self.now container name.now ordinal }
+        ensures { result ≡ container_of (file_in self.now) container name.now ordinal }
     {
         match self.declaration(container, name) {
             Some(row) => ordinal_in(row.containers.as_slice(), ordinal),
@@ -239,11 +272,11 @@ impl Zir {
     }
 
     /// The container of an ordinal in a block.
-    #[tactic(auto, unfolding(crate::specs::Tables::container_in_block))]
+    #[tactic(auto, using(crate::proofs::FileLaws::block_law))]
     pub fn container_in_block(&self, number: u32, ordinal: u32) -> Option<ContainerRef>
-        ensures { result ≡ table.container_in_block self.now number ordinal }
+        ensures { result ≡ container_of_block (file_in self.now) number ordinal }
     {
-        match self.blocks.get(number as usize) {
+        match block_at(self.blocks.as_slice(), number) {
             Some(row) => ordinal_in(row.containers.as_slice(), ordinal),
             None => None,
         }
@@ -292,50 +325,53 @@ fn container_at(rows: &[ContainerRow], at: u32) -> Option<&ContainerRow>
     rows.get(at as usize)
 }
 
+/// The block with a number.
+fn block_at(rows: &[BlockRow], at: u32) -> Option<&BlockRow>
+    ensures { option_copied result ≡ slice_get rows.now at }
+{
+    rows.get(at as usize)
+}
+
 /// The head of a declaration, if it has one.
-fn head_of(row: &DeclarationRow) -> Option<PartRef>
+fn head_of(row: &DeclarationRow) -> Option<PartRow>
     ensures { result ≡ table.head_by row.now row.now.head }
 {
     match row.head {
-        Some(line) => Some(PartRef {
+        Some(line) => Some(PartRow {
             line,
             start: row.start,
-            fingerprint: row.fingerprint,
         }),
         None => None,
     }
 }
 
 /// The whole text of a declaration.
-fn whole_of(row: &DeclarationRow) -> PartRef
-    ensures { result ≡ table.part_ref row.now.whole row.now.start row.now.fingerprint }
+fn whole_of(row: &DeclarationRow) -> PartRow
+    ensures { result ≡ table.part_row row.now.whole row.now.start }
 {
-    PartRef {
+    PartRow {
         line: row.whole,
         start: row.start,
-        fingerprint: row.fingerprint,
     }
 }
 
 /// The fields of a container.
-fn fields_of(row: &ContainerRow) -> PartRef
-    ensures { result ≡ table.part_ref row.now.fields row.now.start row.now.fingerprint }
+fn fields_of(row: &ContainerRow) -> PartRow
+    ensures { result ≡ table.part_row row.now.fields row.now.start }
 {
-    PartRef {
+    PartRow {
         line: row.fields,
         start: row.start,
-        fingerprint: row.fingerprint,
     }
 }
 
 /// The text of a block.
-fn block_of(row: &BlockRow) -> PartRef
-    ensures { result ≡ table.part_ref row.now.line row.now.start row.now.fingerprint }
+fn block_of(row: &BlockRow) -> PartRow
+    ensures { result ≡ table.part_row row.now.line row.now.start }
 {
-    PartRef {
+    PartRow {
         line: row.line,
         start: row.start,
-        fingerprint: row.fingerprint,
     }
 }
 
