@@ -6,13 +6,14 @@ use Rattle.zir_scope.specs.declared.facts.Fact.{Fact}
 use Rattle.zir_scope.specs.Syntax.{Syntax}
 use Rattle.zir_scope.specs.Scoping.{Place, begun, begun_by, past_node, after_part}
 
-begun_case : (facts : List Fact) (r : Role) (inside : Syntax) (p : Place) → (r ≡ role.Members → ⊥) → begun_by r p ≡ begun facts r inside p
+begun_case : (facts : List Fact) (r : Role) (inside : Syntax) (p : Place) → (r ≡ role.Members → ⊥) → (r ≡ role.Container → ⊥) → begun_by r p ≡ begun facts r inside p
 unfolding begun
-begun_case facts role.Members inside p h = absurd (h refl)
-begun_case facts _ inside p h = refl
+begun_case facts role.Members inside p h k = absurd (h refl)
+begun_case facts role.Container inside p h k = absurd (k refl)
+begun_case facts _ inside p h k = refl
 
-pub begun_other : (facts : List Fact) (r now : Role) (inside : Syntax) (p : Place) → (now ≡ role.Members → ⊥) → now ≡ r → begun_by now p ≡ begun facts r inside p
-begun_other facts r now inside p h e = begun_case facts now inside p h ∙ ap (λ (x : Role). begun facts x inside p) e
+pub begun_other : (facts : List Fact) (r now : Role) (inside : Syntax) (p : Place) → (now ≡ role.Members → ⊥) → (now ≡ role.Container → ⊥) → now ≡ r → begun_by now p ≡ begun facts r inside p
+begun_other facts r now inside p h k e = begun_case facts now inside p h k ∙ ap (λ (x : Role). begun facts x inside p) e
 
 past_case : (facts : List Fact) (r : Role) (inside : Syntax) (p : Place) → (r ≡ role.Statement → ⊥) → (r ≡ role.Parameter → ⊥) → (r ≡ role.Captures → ⊥) → (r ≡ role.Prototype → ⊥)
     → after_part p.reading p ≡ past_node facts p r inside

@@ -321,6 +321,10 @@ parts_of _ p = read_as reading.Plain p
 abbrev pub begun_members : List Fact → Syntax → Place → Place
 begun_members facts inside p = read_as reading.Plain (walled false (record p { members = with_members facts (first_token inside) p.members (declarations_in inside) }))
 
+-- a container's tag stands in no function, and nothing around it is left from within
+abbrev pub begun_container : Place → Place
+begun_container p = read_as reading.Plain (walled false p)
+
 -- how the row of another node is read from its start
 abbrev pub begun_by : Role → Place → Place
 begun_by role.If p = read_as reading.Head p
@@ -336,6 +340,7 @@ begun_by _ p = read_as reading.Plain p
 -- how the row of a node is read from its start, where this much is in scope
 unfoldable pub begun : List Fact → Role → Syntax → Place → Place
 begun facts role.Members inside p = begun_members facts inside p
+begun facts role.Container inside p = begun_container p
 begun facts r inside p = begun_by r p
 
 -- what holds at the first part within a node

@@ -136,6 +136,22 @@ impl Scope {
         ensures exits { OnOk result (Extends (seen self.old).exits (seen self.new).exits) }
     {
         self.bind_members(outline, outline.first_token(row), row)?;
+        self.begin_apart(outline, context)
+    }
+
+    /// A container's tag, which stands in no function, and which nothing around it can be left from.
+    #[tactic(auto, using(crate::proofs::Prefixes::prefix_steps))]
+    fn begin_apart(
+        &mut self,
+        outline: &Outline<'_>,
+        context: Context,
+    ) -> Result<Context, AllocError>
+        ensures place { IfOk result (λ c. place outline.now (seen self.new) c ≡ spec.begun_container (place outline.now (seen self.old) context)) }
+        ensures events { OnOk result ((seen self.new).events ≡ (seen self.old).events) }
+        ensures locals { OnOk result ((seen self.new).locals ≡ (seen self.old).locals) }
+        ensures members { OnOk result ((seen self.new).members ≡ (seen self.old).members) }
+        ensures exits { OnOk result (Extends (seen self.old).exits (seen self.new).exits) }
+    {
         self.leave_by(Exit::Wall)?;
         Ok(Context {
             reading: Reading::Plain,
@@ -161,6 +177,7 @@ impl Scope {
     {
         match outline.role(node) {
             Role::Members => self.begin_members(outline, context, outline.kids(node)),
+            Role::Container => self.begin_apart(outline, context),
             role => Ok(context.begun(role)),
         }
     }

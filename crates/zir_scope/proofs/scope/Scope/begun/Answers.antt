@@ -6,7 +6,7 @@ use Rattle.zir_scope.proofs.scope.Scope.begun.Goals as goal
 
 pub returns-in_default : goal.returns-in_default
 returns-in_default c = record {
-  place = c.begun.ensures c.args.outline.now (seen c.args.self.now) ∙ begun_other _ _ _ _ _ c.in_default.not-Members c.role.ensures;
+  place = c.begun.ensures c.args.outline.now (seen c.args.self.now) ∙ begun_other _ _ _ _ _ c.in_default.not-Members c.in_default.not-Container c.role.ensures;
   events = refl;
   locals = refl;
   members = extends_refl _;
