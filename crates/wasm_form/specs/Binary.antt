@@ -1,7 +1,7 @@
 -- The bytes of a module (WebAssembly Core 1.0, chapter 5).
 use Rattle.std.specs.Prelude.{ℕ, Bool, true, false, List, [], ◌∷◌, ◌++◌, length, Option, None, Some}
 use Rattle.std.specs.List.{flat_map}
-use Rattle.zw_bytes.specs.Leb.{unsigned_leb, signed_leb}
+use Rattle.zw_bytes.specs.Leb.{unsigned_leb, signed_leb, unsigned_padded, signed_padded}
 use Rattle.wasm_form.specs.declared.module.ValType.{ValType}
 use Rattle.wasm_form.specs.declared.module.ValType.TheVariants.{I32, I64}
 use Rattle.wasm_form.specs.declared.instr.BlockType.{BlockType}
@@ -69,6 +69,9 @@ instr_bytes (instr.GlobalSet global) = 0x24 ∷ unsigned_leb global
 instr_bytes (instr.Load kind offset) = load_opcode kind ∷ 0x00 ∷ unsigned_leb offset
 instr_bytes (instr.Store kind offset) = store_opcode kind ∷ 0x00 ∷ unsigned_leb offset
 instr_bytes (instr.I32Const n) = 0x41 ∷ signed_leb n
+instr_bytes (instr.I64Const n) = 0x42 ∷ signed_leb n
+instr_bytes (instr.Call function) = 0x10 ∷ unsigned_padded function
+instr_bytes (instr.LinkedConst n) = 0x41 ∷ signed_padded n
 instr_bytes (instr.IsZero class) = eqz_opcode class ∷ []
 instr_bytes (instr.Compare class op) = comparison_opcode class op ∷ []
 instr_bytes (instr.Unary class op) = unary_opcode class op ∷ []

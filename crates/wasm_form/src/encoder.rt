@@ -29,12 +29,13 @@ impl From<AllocError> for EncodeFault {
 /// The most bytes of a module.
 pub const MOST_BYTES: usize = 268_435_456;
 
-/// Appends the bytes of a module. `TooLarge` comes exactly above 268,435,456 bytes.
+/// Appends the bytes of a module. `TooLarge` comes exactly above 268,435,456 bytes. A refusal leaves
+/// the whole buffer, the room included.
 pub fn encode(alloc: Global, m: &Module, into: &mut ByteBuf) -> Result<(), EncodeFault>
     ensures ok { OnOk result (into.new.bytes ≡ into.old.bytes ++ module_bytes m.now) }
     ensures fits { OnOk result (length (module_bytes m.now) ≤ MOST_BYTES) }
     ensures too_large { result ≡ Err EncodeFault.TooLarge → MOST_BYTES < length (module_bytes m.now) }
-    ensures err { OnErr result (into.new.bytes ≡ into.old.bytes) }
+    ensures err { OnErr result (into.new ≡ into.old) }
 {
     let mut out = ByteBuf::with_room(alloc, HEADER.len())?;
     out.put_slice(&HEADER)?;

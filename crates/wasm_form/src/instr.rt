@@ -104,6 +104,12 @@ pub enum Instr {
     Store(StoreKind, u32),
     /// `i32.const`, of the number with these 32 bits.
     I32Const(i32),
+    /// `i64.const`, of the number with these 64 bits.
+    I64Const(i64),
+    /// `call` of the function with this index, which is written in five bytes: linking fills it in.
+    Call(u32),
+    /// `i32.const` of an address or of an error's number, in five bytes: linking fills it in.
+    LinkedConst(i32),
     /// `eqz`: 1 where a number of this type is zero, else 0.
     IsZero(ValType),
     Compare(ValType, Comparison),

@@ -1,6 +1,6 @@
 // The bytes of each instruction (WebAssembly Core 1.0, section 5.4).
 ghost use Rattle.std.specs.Prelude.{◌≡◌, ◌++◌, [], ◌∷◌, OnOk};
-ghost use Rattle.zw_bytes.specs.Leb.{unsigned_leb, signed_leb};
+ghost use Rattle.zw_bytes.specs.Leb.{unsigned_leb, signed_leb, unsigned_padded, signed_padded};
 ghost use Rattle.wasm_form.specs.Binary.{instr_bytes, block_type_byte};
 
 use crate::instr::{BlockType, Instr, eqz_opcode_of};
@@ -31,6 +31,9 @@ impl Encode for Instr {
             Instr::Load(kind, offset) => put_memory(kind.opcode(), *offset, out),
             Instr::Store(kind, offset) => put_memory(kind.opcode(), *offset, out),
             Instr::I32Const(n) => put_constant(*n, out),
+            Instr::I64Const(n) => put_long_constant(*n, out),
+            Instr::Call(function) => put_call(*function, out),
+            Instr::LinkedConst(n) => put_linked(*n, out),
             Instr::IsZero(class) => put_byte(eqz_opcode_of(*class), out),
             Instr::Compare(class, op) => put_byte(op.opcode(*class), out),
             Instr::Unary(class, op) => put_byte(op.opcode(*class), out),
@@ -83,5 +86,35 @@ fn put_constant(n: i32, out: &mut ByteBuf) -> Result<(), AllocError>
     out.reserve(6)?;
     out.put(0x41);
     out.put_s32(n);
+    Ok(())
+}
+
+/// Appends `i64.const` of a number.
+fn put_long_constant(n: i64, out: &mut ByteBuf) -> Result<(), AllocError>
+    ensures { OnOk result (out.new.bytes ≡ out.old.bytes ++ 0x42 ∷ signed_leb n) }
+{
+    out.reserve(11)?;
+    out.put(0x42);
+    out.put_s64(n);
+    Ok(())
+}
+
+/// Appends `call` of a function, whose index takes five bytes.
+fn put_call(function: u32, out: &mut ByteBuf) -> Result<(), AllocError>
+    ensures { OnOk result (out.new.bytes ≡ out.old.bytes ++ 0x10 ∷ unsigned_padded function) }
+{
+    out.reserve(6)?;
+    out.put(0x10);
+    out.put_u32_padded(function);
+    Ok(())
+}
+
+/// Appends `i32.const` of a number, which takes five bytes.
+fn put_linked(n: i32, out: &mut ByteBuf) -> Result<(), AllocError>
+    ensures { OnOk result (out.new.bytes ≡ out.old.bytes ++ 0x41 ∷ signed_padded n) }
+{
+    out.reserve(6)?;
+    out.put(0x41);
+    out.put_s32_padded(n);
     Ok(())
 }

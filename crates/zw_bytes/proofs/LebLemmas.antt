@@ -4,7 +4,7 @@ use Rattle.std.proofs.lemmas.Bool.{cond_below, cond_above}
 use Rattle.std.specs.Prelude.{ℤ, pos, negsuc, ◌<ℤ◌, ◌≤ℤ◌}
 use Rattle.std.specs.Int.RustNames.{unsigned_abs}
 use Rattle.std.proofs.lemmas.Int.{ints}
-use Rattle.zw_bytes.specs.Leb.{groups, low_group, signed_leb}
+use Rattle.zw_bytes.specs.Leb.{groups, padded_groups, low_group, signed_leb, signed_padded}
 
 -- what has at most j + 1 groups is below this
 abbrev pub groups_bound : ℕ → ℕ → ℕ
@@ -70,6 +70,18 @@ length_room n h = length-groups 128 false 9 9 n (omega arith) (omega arith)
 
 pub signed_room : (s : Bool) (n : ℕ) → n < 2 ^ 32 → length (groups 64 s 10 n) ≤ 5
 signed_room s n h = length-groups 64 s 4 9 n (omega arith) (omega arith)
+
+-- one of 64 bits has at most ten
+pub long_signed_room : (s : Bool) (n : ℕ) → n < 2 ^ 64 → length (groups 64 s 10 n) ≤ 10
+long_signed_room s n h = length-groups 64 s 9 9 n (omega arith) (omega arith)
+
+pub padded_negative : (v : ℤ) → v <ℤ pos 0 → padded_groups true 4 (unsigned_abs v - 1) ≡ signed_padded v
+padded_negative (pos n) h = absurd (omega (arith, ints))
+padded_negative (negsuc n) h = ap (padded_groups true 4) (omega arith)
+
+pub padded_positive : (v : ℤ) → pos 0 ≤ℤ v → padded_groups false 4 (unsigned_abs v) ≡ signed_padded v
+padded_positive (pos n) h = refl
+padded_positive (negsuc n) h = absurd (omega (arith, ints))
 
 pub signed_negative : (v : ℤ) → v <ℤ pos 0 → groups 64 true 10 (unsigned_abs v - 1) ≡ signed_leb v
 signed_negative (pos n) h = absurd (omega (arith, ints))

@@ -30,11 +30,11 @@ impl ByteBuf {
         Ok(ByteBuf { inner })
     }
 
-    /// Makes room for at least `n` more bytes. An `Err` changes nothing.
+    /// Makes room for at least `n` more bytes. An `Err` changes nothing, the room included.
     pub fn reserve(&mut self, n: usize) -> Result<(), AllocError>
         ensures bytes { self.new.bytes ≡ self.old.bytes }
         ensures room { OnOk result (n ≤ self.new.spare) }
-        ensures err { OnErr result (self.new.spare ≡ self.old.spare) }
+        ensures err { OnErr result (self.new ≡ self.old) }
     {
         self.inner.reserve(n)
     }
@@ -48,11 +48,12 @@ impl ByteBuf {
         self.inner.push_reserved(b);
     }
 
-    /// Appends bytes, for which it makes room. An `Err` changes nothing.
+    /// Appends bytes, for which it makes room. An `Err` changes nothing, the room included.
     pub fn put_slice(&mut self, bytes: &[u8]) -> Result<(), AllocError>
         ensures ok { OnOk result (self.new.bytes ≡ self.old.bytes ++ bytes.now) }
-        ensures err { OnErr result (self.new.bytes ≡ self.old.bytes) }
+        ensures err { OnErr result (self.new ≡ self.old) }
     {
+        self.reserve(bytes.len())?;
         self.inner.extend_from_slice(bytes)
     }
 

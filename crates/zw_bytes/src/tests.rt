@@ -35,6 +35,22 @@ fn writes_known_numbers(rt: HostRuntime) -> Result<(), Fail> {
 }
 
 #[test]
+fn writes_long_and_padded_numbers(rt: HostRuntime) -> Result<(), Fail> {
+    let mut buffer = ByteBuf::with_room(rt.alloc(), 41)?;
+    buffer.put_s64(i64::MIN);
+    buffer.put_s64(i64::MAX);
+    buffer.put_s64(-1);
+    buffer.put_u32_padded(3);
+    buffer.put_u32_padded(u32::MAX);
+    buffer.put_s32_padded(-2);
+    buffer.put_s32_padded(1_048_576);
+    let wanted: &[u8] =
+        b"\x80\x80\x80\x80\x80\x80\x80\x80\x80\x7f\xff\xff\xff\xff\xff\xff\xff\xff\xff\x00\x7f\x83\x80\x80\x80\x00\xff\xff\xff\xff\x0f\xfe\xff\xff\xff\x7f\x80\x80\xc0\x80\x00";
+    assert_eq!(rt; buffer.as_slice(), wanted);
+    Ok(())
+}
+
+#[test]
 fn takes_bytes(rt: HostRuntime) -> Result<(), Fail> {
     let mut buffer = ByteBuf::with_room(rt.alloc(), 0)?;
     buffer.put_slice(b"ab")?;
