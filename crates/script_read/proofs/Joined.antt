@@ -1,7 +1,7 @@
 -- The steps to a command, one after another.
 use Rattle.std.proofs.Common.{◌≡◌, ℕ, List, ◌∷◌, ◌++◌, Option, None, Some, IfSome, IfNone, Result, Ok, Err, refl, ◌∙◌, append_assoc}
 use Rattle.script_read.specs.declared.command.Command.{Command}
-use Rattle.script_read.specs.declared.command.Limits.{Limits}
+use Rattle.zw_base.specs.declared.limits.Limits.{Limits}
 use Rattle.script_read.specs.declared.command.Next.TheVariants as next
 use Rattle.script_read.specs.declared.command.Request.{Request}
 use Rattle.script_read.specs.declared.command.Refusal.{Refusal}
@@ -9,7 +9,7 @@ use Rattle.script_read.specs.declared.command.Refusal.TheVariants.{End, Bad, Ove
 use Rattle.script_read.specs.ReaderState.{ReaderState}
 use Rattle.script_read.specs.Line.{line_at}
 use Rattle.script_read.specs.Script.{completed, judged, next_of}
-use Rattle.script_read.specs.Sizes.{Sizes}
+use Rattle.zw_base.specs.Limits.{Sizes}
 use Rattle.script_read.specs.Reads.{Reads, ReadsFrom, Answers}
 use Rattle.script_read.proofs.Lines.{line_found}
 use Rattle.script_read.proofs.Shapes.{line_shape, next_ends}

@@ -5,7 +5,7 @@ use Rattle.std.specs.Fmt.{decimal}
 use Rattle.zw_base.specs.declared.reason.Reason.TheVariants.{CutShort}
 use Rattle.script_read.specs.declared.command.Command.{Command}
 use Rattle.script_read.specs.declared.command.Command.TheVariants as command
-use Rattle.script_read.specs.declared.command.Limits.{Limits}
+use Rattle.zw_base.specs.declared.limits.Limits.{Limits}
 use Rattle.script_read.specs.declared.command.Next.{Next}
 use Rattle.script_read.specs.declared.command.Next.TheVariants as next
 use Rattle.script_read.specs.declared.command.Refusal.{Refusal}
@@ -17,7 +17,8 @@ use Rattle.script_read.specs.Line.{is_line_end, HasNoEnd, IsParted, line_at, lin
 use Rattle.script_read.specs.ReaderState.{ReaderState}
 use Rattle.script_read.specs.Reads.{Answers, lines_of}
 use Rattle.script_read.specs.Script.{completed, judged, next_of}
-use Rattle.script_read.specs.Sizes.{Sizes, allowed}
+use Rattle.zw_base.specs.Limits.{Sizes}
+use Rattle.script_read.specs.Sizes.{allowed}
 use Rattle.script_read.specs.Words.{request_of}
 use Rattle.script_read.specs.Grammar.{line_for, IsProper, Asks, request_for, behind_line, IsSentence}
 use Rattle.script_read.specs.Causes.{Cause, LongLine, CutLine, NoCommand, WrongWords, WrongPath, WrongLength, FileAbsent, Over, CutContent, UnendedContent, order, refused_with, Stands, NoneStands, IsFirst}

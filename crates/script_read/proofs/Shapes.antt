@@ -8,7 +8,7 @@ use Rattle.std.specs.List.{list_any, before_first, after_first, position_or_len}
 use Rattle.zw_base.specs.declared.reason.Reason.TheVariants.{LineTooLong, CutShort, MissingEnd}
 use Rattle.script_read.specs.declared.command.Command.{Command}
 use Rattle.script_read.specs.declared.command.Command.TheVariants as command
-use Rattle.script_read.specs.declared.command.Limits.{Limits}
+use Rattle.zw_base.specs.declared.limits.Limits.{Limits}
 use Rattle.script_read.specs.declared.command.Request.{Request}
 use Rattle.script_read.specs.declared.command.Request.TheVariants as request
 use Rattle.script_read.specs.declared.command.Refusal.{Refusal}
@@ -16,7 +16,7 @@ use Rattle.script_read.specs.declared.command.Refusal.TheVariants.{End, Bad}
 use Rattle.script_read.specs.Answers.{◌>>=◌}
 use Rattle.script_read.specs.Line.{is_line_end, HasNoEnd, IsParted, line_at, line_ends}
 use Rattle.script_read.specs.Script.{content_at, completed, judged, next_of}
-use Rattle.script_read.specs.Sizes.{Sizes}
+use Rattle.zw_base.specs.Limits.{Sizes}
 use Rattle.script_read.specs.Reads.{lines_of}
 use Rattle.script_read.proofs.Lines.{neither}
 

@@ -10,14 +10,15 @@ use Rattle.zw_base.specs.declared.reason.Reason.TheVariants.{LineTooLong, CutSho
 use Rattle.zw_base.specs.declared.status.Which.TheVariants.{Commands, FileBytes, Files, TotalBytes}
 use Rattle.script_read.specs.declared.command.Command.{Command}
 use Rattle.script_read.specs.declared.command.Command.TheVariants as command
-use Rattle.script_read.specs.declared.command.Limits.{Limits}
+use Rattle.zw_base.specs.declared.limits.Limits.{Limits}
 use Rattle.script_read.specs.declared.command.Refusal.{Refusal}
 use Rattle.script_read.specs.declared.command.Refusal.TheVariants as refusal
 use Rattle.script_read.specs.declared.command.Request.{Request}
 use Rattle.script_read.specs.declared.command.Request.TheVariants as request
 use Rattle.script_read.specs.Line.{is_line_end, IsParted, line_at}
 use Rattle.script_read.specs.Script.{content_at, completed}
-use Rattle.script_read.specs.Sizes.{Sizes, files_after, is_absent, is_over, unless_over, allowed}
+use Rattle.zw_base.specs.Limits.{Sizes, is_over}
+use Rattle.script_read.specs.Sizes.{files_after, is_absent, unless_over, allowed}
 use Rattle.script_read.specs.Words.{request_of}
 use Rattle.script_read.specs.Grammar.{APath, ALength, Asks, content_len, request_for, behind_line}
 use Rattle.script_read.specs.Causes.{Cause, LongLine, CutLine, FileAbsent, Over, CutContent, UnendedContent, Stands, NoneStands, IsLong, IsCut, InLine, IsUnknown, HasWrongWords, HasWrong, Asking, IsCutContent, IsUnended}

@@ -4,13 +4,14 @@ use Rattle.std.specs.List.{AllByRecursion}
 use Rattle.zw_base.specs.declared.reason.Reason.TheVariants.{LineTooLong, CutShort, UnknownCommand, BadWords, BadPath, BadLength, AbsentPath, MissingEnd}
 use Rattle.zw_base.specs.declared.status.Which.{Which}
 use Rattle.zw_base.specs.declared.status.Which.TheVariants.{Commands, FileBytes, Files, TotalBytes}
-use Rattle.script_read.specs.declared.command.Limits.{Limits}
+use Rattle.zw_base.specs.declared.limits.Limits.{Limits}
 use Rattle.script_read.specs.declared.command.Refusal.{Refusal}
 use Rattle.script_read.specs.declared.command.Refusal.TheVariants as refusal
 use Rattle.script_read.specs.declared.command.Request.{Request}
 use Rattle.script_read.specs.declared.line.Verb.{Verb}
 use Rattle.script_read.specs.Line.{HasNoEnd, IsParted}
-use Rattle.script_read.specs.Sizes.{Sizes, files_after, is_absent, is_over}
+use Rattle.zw_base.specs.Limits.{Sizes, is_over}
+use Rattle.script_read.specs.Sizes.{files_after, is_absent}
 use Rattle.script_read.specs.Grammar.{Field, APath, ALength, fields_of, Calls, HasWords, Fails, Asks, content_len}
 
 -- ---- the line

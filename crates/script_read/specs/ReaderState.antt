@@ -1,6 +1,6 @@
 -- What contracts see of a reader.
 use Rattle.std.specs.Prelude.{ℕ, Option}
-use Rattle.script_read.specs.declared.command.Limits.{Limits}
+use Rattle.zw_base.specs.declared.limits.Limits.{Limits}
 use Rattle.script_read.specs.declared.command.Refusal.{Refusal}
 
 -- the limits; the number of the line where the next command begins; how many commands there were; and why there

@@ -2,18 +2,15 @@
 use Rattle.std.specs.Prelude.{◌≡◌, ℕ, ◌+◌, ◌-◌, ◌^◌, min, List, ◌++◌, ◌⊎◌, Option, None, Some, option_to_list, Result, Ok, Err}
 use Rattle.std.specs.Option.{option_map}
 use Rattle.zw_base.specs.declared.reason.Reason.TheVariants.{CutShort}
-use Rattle.zw_base.specs.declared.status.Which.{Which}
-use Rattle.zw_base.specs.declared.status.Which.TheVariants.{Commands, FileBytes, Files, TotalBytes}
+use Rattle.zw_base.specs.Limits.{Sizes, limit_of}
 use Rattle.script_read.specs.declared.command.Command.{Command}
 use Rattle.script_read.specs.declared.command.Command.TheVariants as command
-use Rattle.script_read.specs.declared.command.Limits.{Limits}
 use Rattle.script_read.specs.declared.command.Next.{Next}
 use Rattle.script_read.specs.declared.command.Next.TheVariants as next
 use Rattle.script_read.specs.declared.command.Refusal.{Refusal}
 use Rattle.script_read.specs.declared.command.Refusal.TheVariants.{End, Bad, Over, ReadFault, OutOfMemory}
 use Rattle.script_read.specs.ReaderState.{ReaderState}
 use Rattle.script_read.specs.Line.{line_ends}
-use Rattle.script_read.specs.Sizes.{Sizes}
 use Rattle.script_read.specs.Script.{next_of}
 
 -- what was left before a byte was read, by what is left after it; a read that fails has taken nothing
@@ -48,13 +45,6 @@ abbrev pub lines_of : Command → ℕ
 lines_of (command.File path bytes) = line_ends bytes + 2
 lines_of (command.Drop path) = 1
 lines_of command.Update = 1
-
--- the limit by its name
-abbrev pub limit_of : Limits → Which → ℕ
-limit_of limits Commands = limits.commands
-limit_of limits FileBytes = limits.file_bytes
-limit_of limits Files = limits.files
-limit_of limits TotalBytes = limits.total_bytes
 
 -- what a reader answers that has stopped
 abbrev pub answer_of : ReaderState → Refusal → Next

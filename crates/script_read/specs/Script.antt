@@ -3,7 +3,7 @@ use Rattle.std.specs.Prelude.{ℕ, ◌+◌, ◌==◌, nat_le, if◌then◌else�
 use Rattle.zw_base.specs.declared.reason.Reason.TheVariants.{CutShort, MissingEnd}
 use Rattle.script_read.specs.declared.command.Command.{Command}
 use Rattle.script_read.specs.declared.command.Command.TheVariants as command
-use Rattle.script_read.specs.declared.command.Limits.{Limits}
+use Rattle.zw_base.specs.declared.limits.Limits.{Limits}
 use Rattle.script_read.specs.declared.command.Refusal.{Refusal}
 use Rattle.script_read.specs.declared.command.Refusal.TheVariants.{Bad}
 use Rattle.script_read.specs.declared.command.Request.{Request}
@@ -11,7 +11,8 @@ use Rattle.script_read.specs.declared.command.Request.TheVariants as request
 use Rattle.script_read.specs.Answers.{◌>>=◌}
 use Rattle.script_read.specs.Line.{line_at}
 use Rattle.script_read.specs.Words.{request_of}
-use Rattle.script_read.specs.Sizes.{Sizes, allowed}
+use Rattle.zw_base.specs.Limits.{Sizes}
+use Rattle.script_read.specs.Sizes.{allowed}
 
 -- so many bytes and the LF after them, and the bytes that follow
 abbrev pub content_at : ℕ → List ℕ → Result (List ℕ × List ℕ) Refusal

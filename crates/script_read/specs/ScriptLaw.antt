@@ -2,14 +2,14 @@
 use Rattle.std.specs.Prelude.{◌≡◌, ℕ, List, [], ◌++◌, ◌⊎◌, Option, Some, Result, Ok, Err}
 use Rattle.zw_base.specs.declared.reason.Reason.TheVariants.{CutShort}
 use Rattle.script_read.specs.declared.command.Command.{Command}
-use Rattle.script_read.specs.declared.command.Limits.{Limits}
+use Rattle.zw_base.specs.declared.limits.Limits.{Limits}
 use Rattle.script_read.specs.declared.command.Next.{Next}
 use Rattle.script_read.specs.declared.command.Next.TheVariants as next
 use Rattle.script_read.specs.declared.command.Refusal.{Refusal}
 use Rattle.script_read.specs.declared.command.Refusal.TheVariants.{End, Bad, Over, ReadFault, OutOfMemory}
 use Rattle.script_read.specs.ReaderState.{ReaderState}
-use Rattle.script_read.specs.Sizes.{Sizes}
-use Rattle.script_read.specs.Reads.{limit_of, answer_of}
+use Rattle.zw_base.specs.Limits.{Sizes, limit_of}
+use Rattle.script_read.specs.Reads.{answer_of}
 use Rattle.script_read.specs.Grammar.{IsSentence}
 use Rattle.script_read.specs.Causes.{Cause, order, refused_with, Stands, NoneStands, IsFirst}
 

@@ -1,10 +1,11 @@
 // Whether a command may be carried out: its path is there, and no limit is passed.
 ghost use Rattle.std.specs.Prelude.{◌≡◌, ◌≤◌, ◌<◌, ◌+◌, ◌^◌, nat_lt, length, if◌then◌else◌};
 ghost use Rattle.std.specs.List.{list_any};
-ghost use Rattle.script_read.specs.Sizes.{AreWithin, allowed, file_allowed, has_path, others, total};
+ghost use Rattle.zw_base.specs.Limits.{AreWithin, has_path, others, passed_beside, tally, total};
+ghost use Rattle.script_read.specs.Sizes.{allowed, unless_over};
 
-use crate::command::{Limits, Refusal, Request};
-use zw_base::{FilePath, FileSizes, Reason, Which};
+use crate::command::{Refusal, Request};
+use zw_base::{FilePath, FileSizes, Limits, Reason, Tally, Which};
 
 /// Whether a command may be carried out after `commands` others, for the files as it would leave them.
 pub fn allow(
@@ -50,33 +51,18 @@ fn allow_file(
     len: u64,
 ) -> Result<(), Refusal>
     requires { total have.now ≤ limits.total_bytes }
-    ensures { result ≡ file_allowed limits (others path.now have.now) len }
+    ensures { result ≡ unless_over (passed_beside limits (tally (others path.now have.now)) len) }
 {
-    if len > u64::from(limits.file_bytes) {
-        return Err(Refusal::Over(Which::FileBytes));
+    match limits.passed_beside(tally_others(have, path), len) {
+        Some(which) => Err(Refusal::Over(which)),
+        None => Ok(()),
     }
-    let beside = tally_others(have, path);
-    if beside.files >= u64::from(limits.files) {
-        return Err(Refusal::Over(Which::Files));
-    }
-    if beside.bytes + len > u64::from(limits.total_bytes) {
-        return Err(Refusal::Over(Which::TotalBytes));
-    }
-    Ok(())
-}
-
-/// How many files there are, and how many bytes they have.
-#[derive(Clone, Copy)]
-struct Tally {
-    files: u64,
-    bytes: u64,
 }
 
 /// The files with other paths.
 fn tally_others(have: &[(FilePath, u64)], path: &FilePath) -> Tally
     requires { total have.now < 2 ^ 32 }
-    ensures files { result.files ≡ length (others path.now have.now) }
-    ensures bytes { result.bytes ≡ total (others path.now have.now) }
+    ensures { result ≡ tally (others path.now have.now) }
 {
     let mut tally = Tally { files: 0, bytes: 0 };
     for (held, len) in have {

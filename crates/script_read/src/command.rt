@@ -2,21 +2,6 @@
 use std::alloc::{AllocError, AllocFailed};
 use zw_base::{Bytes, Failed, FilePath, Reason, Which};
 
-/// The limits of a script and of the files that it changes.
-#[derive(Clone, Copy, Debug, PartialEq, Eq)]
-pub struct Limits {
-    /// The most commands.
-    pub commands: u32,
-    /// The most files.
-    pub files: u32,
-    /// The most bytes of one file.
-    pub file_bytes: u32,
-    /// The most bytes of all files together.
-    pub total_bytes: u32,
-    /// The most bytes of a line before its LF.
-    pub line: u32,
-}
-
 /// A command of a script.
 #[derive(Debug, Drop)]
 pub enum Command {

@@ -1,11 +1,11 @@
 // What a script's bytes mean, apart from any reader.
 ghost use Rattle.std.specs.Prelude.{◌≡◌, ℕ, List};
 ghost use Rattle.script_read.specs.declared.command.Command.{Command};
-ghost use Rattle.script_read.specs.declared.command.Limits.{Limits};
+ghost use Rattle.zw_base.specs.declared.limits.Limits.{Limits};
 ghost use Rattle.script_read.specs.Grammar.{IsSentence};
 ghost use Rattle.script_read.specs.Line.{line_ends};
 ghost use Rattle.script_read.specs.Reads.{lines_of};
-ghost use Rattle.script_read.specs.Sizes.{Sizes};
+ghost use Rattle.zw_base.specs.Limits.{Sizes};
 ghost use Rattle.script_read.specs.Script.{next_of};
 ghost use Rattle.script_read.specs.ScriptLaw.{Meaning, Means};
 

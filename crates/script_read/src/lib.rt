@@ -18,9 +18,10 @@ mod reader;
 mod reading;
 mod steps;
 
-pub use command::{Command, Limits, Next};
+pub use command::{Command, Next};
 pub use laws::{bytes_have_one_meaning, commands_have_their_lines};
 pub use reader::ScriptReader;
+pub use zw_base::Limits;
 
 #[cfg(test)]
 mod tests;

@@ -1,9 +1,9 @@
 // The reader of a script.
-use crate::command::{Limits, Next, Refusal};
-use crate::steps::{limit_of, lines_of, read_command};
+use crate::command::{Next, Refusal};
+use crate::steps::{lines_of, read_command};
 use std::alloc::Global;
 use std::marker::Model;
-use zw_base::{FileSizes, Source};
+use zw_base::{FileSizes, Limits, Source};
 
 /// Reads the commands of a script, one by one.
 #[derive(Debug, Drop)]
@@ -28,7 +28,7 @@ impl Model for ScriptReader {
 impl ScriptReader {
     ghost use Rattle.std.specs.Prelude.{◌≡◌, ◌≤◌, ◌⊎◌, None, Some, IfSome, IfNone, Err};
     ghost use Rattle.zw_base.specs.Outside.{Rose};
-    ghost use Rattle.script_read.specs.Sizes.{AreWithin};
+    ghost use Rattle.zw_base.specs.Limits.{AreWithin};
     ghost use Rattle.script_read.specs.Reads.{Answers, answer_of, after};
     ghost use Rattle.script_read.specs.ScriptLaw.{HasCause, IsExact};
 
@@ -109,7 +109,7 @@ impl ScriptReader {
             },
             Refusal::Over(which) => Next::Limit {
                 which,
-                number: u64::from(limit_of(self.limits, which)),
+                number: u64::from(self.limits.number(which)),
             },
             Refusal::ReadFault => Next::ReadFault,
             Refusal::OutOfMemory => Next::OutOfMemory,

@@ -4,15 +4,15 @@ ghost use Rattle.zw_base.specs.Outside.{Rose};
 ghost use Rattle.script_read.specs.Line.{line_ends};
 ghost use Rattle.script_read.specs.Answers.{Gives};
 ghost use Rattle.script_read.specs.Script.{next_of, completed, judged};
-ghost use Rattle.script_read.specs.Sizes.{AreWithin};
-ghost use Rattle.script_read.specs.Reads.{Reads, limit_of, lines_of};
+ghost use Rattle.zw_base.specs.Limits.{AreWithin};
+ghost use Rattle.script_read.specs.Reads.{Reads, lines_of};
 
 use crate::allow::allow;
-use crate::command::{Command, Limits, Refusal, Request};
+use crate::command::{Command, Refusal, Request};
 use crate::line::request_of;
 use crate::reading::{read_content, read_line};
 use std::alloc::Global;
-use zw_base::{Bytes, FileSizes, Source, Which};
+use zw_base::{Bytes, FileSizes, Limits, Source};
 
 /// The next command after `commands` others, for the files as they stand.
 pub fn read_command<S: Source>(
@@ -84,16 +84,4 @@ fn line_ends(bytes: &[u8]) -> u64
     ensures { result ≡ line_ends bytes.now }
 {
     bytes.iter().filter(|b| **b == b'\n').count() as u64
-}
-
-/// The limit by its name.
-pub fn limit_of(limits: Limits, which: Which) -> u32
-    ensures { result ≡ limit_of limits which }
-{
-    match which {
-        Which::Commands => limits.commands,
-        Which::FileBytes => limits.file_bytes,
-        Which::Files => limits.files,
-        Which::TotalBytes => limits.total_bytes,
-    }
 }

@@ -4,16 +4,7 @@ ghost use Rattle.std.specs.Prelude.{◌≡◌, ◌≤◌, [], IfOk};
 use super::{Command, Limits, Next, ScriptReader};
 use std::alloc::{AllocError, Global};
 use std::test::Fail;
-use zw_base::{Bytes, FileSizes, MemSource, Reason, Seq, Which};
-
-/// The limits of the product.
-pub const LIMITS: Limits = Limits {
-    commands: 1_000_000,
-    files: 1_024,
-    file_bytes: 1_048_576,
-    total_bytes: 67_108_864,
-    line: 300,
-};
+use zw_base::{Bytes, FileSizes, LIMITS, MemSource, Reason, Seq, Which};
 
 pub fn no_files(alloc: Global) -> FileSizes
     ensures { result ≡ [] }

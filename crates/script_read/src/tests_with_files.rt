@@ -1,12 +1,12 @@
 // Commands and refusals where files are there already, and what a command leaves to be read.
 ghost use Rattle.std.specs.Prelude.{◌≡◌, ◌≤◌, ◌+◌, IfOk};
-ghost use Rattle.script_read.specs.Sizes.{AreWithin};
+ghost use Rattle.zw_base.specs.Limits.{AreWithin};
 
 use super::{Command, Limits, Next, ScriptReader};
-use crate::tests::{LIMITS, is_limit, is_refused, no_files, source};
+use crate::tests::{is_limit, is_refused, no_files, source};
 use std::alloc::{AllocError, Global};
 use std::test::Fail;
-use zw_base::{FilePath, FileSizes, Reason, Seq, Which};
+use zw_base::{FilePath, FileSizes, LIMITS, Reason, Seq, Which};
 
 /// Limits that two small files reach.
 const SMALL: Limits = Limits {

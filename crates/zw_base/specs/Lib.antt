@@ -1,5 +1,6 @@
 pub mod DiagCode
 pub mod Path
+pub mod Limits
 pub mod Outside
 pub mod Plan
 pub mod HeldFiles

@@ -1,5 +1,5 @@
 //! What every layer of zwatch shares: lists that contracts see as lists, places in a file, paths,
-//! diagnostic codes, and the outside (files and a source that are read, a sink that is written,
+//! diagnostic codes, limits on files and scripts, and the outside (files and a source that are read, a sink that is written,
 //! listeners that are told, a gate where a test holds a worker) as traits.
 //!
 //! The model: a path is the list of its bytes; a `Files` tells, where it can, a map from path to
@@ -27,6 +27,7 @@ mod tests;
 pub use diag::{DiagCode, Found, Span};
 pub use files::{Fetched, Files, MemFiles, SureFiles};
 pub use gate::{Gate, NoGate};
+pub use limits::{LIMITS, Limits, Tally};
 pub use listener::{Listener, MemListener, Outcome, Report};
 pub use path::{FilePath, FileSizes, FileTexts, PathFault};
 pub use reason::Reason;

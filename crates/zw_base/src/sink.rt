@@ -7,9 +7,11 @@ use crate::plan::FaultPlan;
 use crate::seq::Seq;
 use std::alloc::{AllocError, Global};
 use std::marker::Model;
+use thiserror::Error;
 
 /// A call to the outside failed.
-#[derive(Clone, Copy, Debug, PartialEq, Eq)]
+#[derive(Clone, Copy, Debug, PartialEq, Eq, Error)]
+#[error("a call to the outside failed")]
 pub struct Failed;
 
 /// A sink that takes bytes.

@@ -1,5 +1,5 @@
 use Rattle.std.proofs.Common.{arith, sym}
-use Rattle.script_read.proofs.SizeLemmas.{others_are_no_more, others_have_no_more, next_fits}
+use Rattle.zw_base.proofs.SizeLemmas.{others_are_no_more, others_have_no_more, next_fits}
 use Rattle.script_read.proofs.allow.tally_others.Goals as goal
 
 pub overflow_add-tally : goal.overflow_add-tally

@@ -1,5 +1,5 @@
 use Rattle.std.proofs.Common.{◌≡◌, ◌+◌, length, drop}
-use Rattle.script_read.specs.Sizes.{others, total}
+use Rattle.zw_base.specs.Limits.{others, total}
 use Rattle.script_read.proofs.allow.tally_others.Given as goal
 
 -- the tally so far, and what is left of the files
