@@ -3,6 +3,7 @@ ghost use Rattle.std.specs.Prelude.{◌≡◌};
 ghost use Rattle.zw_base.specs.Status.{status_code};
 
 use crate::path::FilePath;
+use crate::reason::Reason;
 use std::fmt;
 
 /// A limit on what the program takes.
@@ -38,6 +39,10 @@ pub enum Status {
     Diagnostics,
     /// The words are none that the program serves.
     Usage,
+    /// A command of the script is refused; `line` is that of the command, counted from 1.
+    BadScript { line: u64, reason: Reason },
+    /// The script could not be read.
+    ReadFault,
     /// A file could not be read.
     FileFault,
     /// A file that the words name is absent.
@@ -59,6 +64,8 @@ impl Status {
             Status::Module => 0,
             Status::Diagnostics => 1,
             Status::Usage => 2,
+            Status::BadScript { .. } => 3,
+            Status::ReadFault => 4,
             Status::FileFault => 5,
             Status::NoFile { .. } => 6,
             Status::WriteFault => 7,
@@ -77,6 +84,8 @@ impl fmt::Display for Status {
                 f,
                 "usage: zwatch [--once] [--jobs N] [--shards N] --root PATH [PATH...] or --load N"
             ),
+            Status::BadScript { line, reason } => write!(f, "script line {line}: {reason}"),
+            Status::ReadFault => write!(f, "reading the script failed"),
             Status::FileFault => write!(f, "reading a file failed"),
             Status::NoFile { path } => {
                 let path = path.as_str();

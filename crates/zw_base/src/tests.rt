@@ -1,7 +1,7 @@
 // What no clause says: that the calls succeed where there is memory, and that the definitions are meant so.
 use crate::{
-    Bytes, Fetched, FilePath, Files, MemFiles, MemSink, PathFault, Seq, Sink, Status, SureFiles,
-    SureSink, Which,
+    Bytes, Fetched, FilePath, Files, MemFiles, MemSink, PathFault, Reason, Seq, Sink, Status,
+    SureFiles, SureSink, Which,
 };
 use std::test::Fail;
 
@@ -86,6 +86,10 @@ fn says_how_a_run_ended(rt: HostRuntime) -> Result<(), Fail> {
         which: Which::FileBytes,
         number: 1_048_576,
     };
+    let refused = Status::BadScript {
+        line: 12,
+        reason: Reason::MissingEnd,
+    };
     for (status, code, text) in [
         (Status::Module, 0, ""),
         (
@@ -93,6 +97,8 @@ fn says_how_a_run_ended(rt: HostRuntime) -> Result<(), Fail> {
             2,
             "usage: zwatch [--once] [--jobs N] [--shards N] --root PATH [PATH...] or --load N",
         ),
+        (refused, 3, "script line 12: MissingEnd"),
+        (Status::ReadFault, 4, "reading the script failed"),
         (Status::FileFault, 5, "reading a file failed"),
         (Status::NoFile { path }, 6, "no file n.zig"),
         (Status::WriteFault, 7, "writing failed"),
