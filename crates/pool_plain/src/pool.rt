@@ -1,11 +1,8 @@
 // The pool: keys at their places, and a map from keys to places.
-ghost use Rattle.std.specs.Prelude.{◌≡◌, ℕ, List, [], ◌∷◌, ◌++◌, ◌<◌, ◌≤◌, length, slice_get, IsSome, IfSome, IfNone, IfOk, IfErr, OnErr, None, Some, if◌then◌else◌};
+ghost use Rattle.std.specs.Prelude.{◌≡◌, ℕ, List, [], ◌∷◌, ◌++◌, length, IfOk, OnErr, Some, if◌then◌else◌};
 ghost use Rattle.std.specs.BTreeMap.{IsUnchanged};
 ghost use Rattle.std.specs.Option.{option_copied};
 ghost use Rattle.std.specs.Str.{bytes_eq};
-ghost use Rattle.type_form.specs.Known.{words_at, IsInjective};
-ghost use Rattle.type_form.specs.Means.{Grows};
-ghost use Rattle.type_form.specs.Counts.{Explains};
 ghost use Rattle.pool_plain.specs.Rows.{numbered, place_in};
 
 use sqlite_items::Items;
@@ -83,7 +80,9 @@ fn add(
 impl Keys for PlainPool {
     ghost known = { λ p. numbered 0 p };
 
-    ghost home = { λ _. 0 };
+    ghost Home = { Unit {0} };
+
+    ghost home = { λ _. tt };
 
     fn find(&mut self, key: &[u64]) -> Option<Index> {
         match place_of(&self.places, key) {
@@ -98,8 +97,6 @@ impl Keys for PlainPool {
 }
 
 impl Interner for PlainPool {
-    ghost fulls = { λ _. 0 };
-
     fn intern(&mut self, key: &[u64]) -> Result<Index, InternFault> {
         match place_of(&self.places, key) {
             Some(place) => Ok(Index(place)),

@@ -1,8 +1,8 @@
 // The pool with keys of every layer: a function that builds, and one that goes down.
-ghost use Rattle.std.specs.Prelude.{◌≡◌, ◌≤◌, false, IfOk, IfErr};
+ghost use Rattle.std.specs.Prelude.{◌≡◌, false, IfOk};
 ghost use Rattle.type_form.specs.Known.{IsInjective};
-ghost use Rattle.type_form.specs.Means.{Grows, IsTy, ty_at, DenotesTy};
-ghost use Rattle.type_form.specs.Counts.{Explains};
+ghost use Rattle.type_form.specs.Means.{IsTy, ty_at, DenotesTy};
+ghost use Rattle.type_form.specs.Pool.{Reads, Interns, is_full};
 ghost use Rattle.type_form.specs.declared.tree.Ty.TheVariants as ty;
 ghost use Rattle.pool_plain.specs.Recipes.{is_comptime_only};
 
@@ -18,10 +18,7 @@ use type_keys::{intern_bytes, intern_list, read_list, ty_key};
 fn six<I: Interner>(a: Index, b: Index, p: &mut I) -> Result<Index, InternFault>
     requires a_known { IsTy (I.known p.old) a }
     requires b_known { IsTy (I.known p.old) b }
-    ensures grows { Grows (I.known p.old) (I.known p.new) }
-    ensures home { I.home p.new ≡ I.home p.old }
-    ensures counted { I.fulls p.old ≤ I.fulls p.new }
-    ensures fault { IfErr result (Explains (I.fulls p.old) (I.fulls p.new)) }
+    ensures interns { Interns I.known I.home I.fulls p.old p.new (is_full result) }
     ensures ty { IfOk result (λ i. DenotesTy (I.known p.new) i (ty.Array 4 (ty.Pointer false (ty.ErrorUnion (ty_at (I.known p.old) b) (ty.Optional (ty.Slice false (ty.Optional (ty_at (I.known p.old) a)))))))) }
 {
     let inner = optional_type(a, p)?;
@@ -37,9 +34,8 @@ fn six<I: Interner>(a: Index, b: Index, p: &mut I) -> Result<Index, InternFault>
 #[tactic(auto, using(type_form::specs::declared::tree::Arg::the_lemmas))]
 fn is_comptime_only<P: Keys>(ty: Index, p: &mut P) -> bool
     requires { IsTy (P.known p.old) ty }
-    ensures grows { Grows (P.known p.old) (P.known p.new) }
+    ensures reads { Reads P.known P.home P.fulls p.old p.new }
     ensures agrees { IsInjective (P.known p.new) }
-    ensures home { P.home p.new ≡ P.home p.old }
     ensures answer { result ≡ is_comptime_only (ty_at (P.known p.old) ty) }
 {
     match ty_key(ty, p) {

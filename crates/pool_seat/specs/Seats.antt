@@ -16,6 +16,14 @@ pub record Sole : Type 0 where
 abbrev pub pairs : Sole → Known
 pairs s = known s.rows
 
+-- its pool: which table, and how it is laid out
+abbrev pub home : Sole → PoolId
+home s = pool_of s.rows
+
+-- its Full answers
+abbrev pub full_answers : Sole → ℕ
+full_answers s = s.fulls
+
 -- where a Full was answered, some shard is full
 pub record KeepsFull (rows : Rows) (fulls : ℕ) : Type 0 where
   pub some : 0 < fulls → (s : ℕ) × (s < rows.view.layout.shards) × IsFullShard rows.view.layout rows.view.log s

@@ -3,9 +3,9 @@ ghost use Rattle.std.specs.Prelude.{◌≡◌, ℕ, ◌<◌, ◌≤◌, length, 
 ghost use Rattle.type_form.specs.Known.{words_at, IsInjective};
 ghost use Rattle.type_form.specs.Known.{Keeps as KeepsWords};
 ghost use Rattle.type_form.specs.Means.{Grows};
-ghost use Rattle.type_form.specs.Counts.{Explains};
-ghost use Rattle.pool_shard.specs.Pairs.{known, pool_of, GoesOn};
-ghost use Rattle.pool_seat.specs.Seats.{pairs, IsFullFor};
+ghost use Rattle.type_form.specs.Pool.{Reads, Interns, is_full};
+ghost use Rattle.pool_shard.specs.Pairs.{PoolId, known, pool_of, GoesOn};
+ghost use Rattle.pool_seat.specs.Seats.{pairs, home, full_answers, IsFullFor};
 
 use crate::note::Note;
 use pool_shard::{Pool, PoolName, RawSeat};
@@ -104,31 +104,44 @@ impl<'p, R, N: PoolName, G> PoolSeat<'p, R, N, G> {
 impl<'p, R, N: PoolName, G> Keys for PoolSeat<'p, R, N, G> {
     ghost known = { pairs };
 
-    ghost home = { λ s. s.rows.id.views_name };
+    ghost Home = { PoolId };
 
-    fn find(&mut self, key: &[u64]) -> Option<Index> {
+    ghost home = { home };
+
+    ghost fulls = { full_answers };
+
+    /// Goes on from the same rows, beside what every table of keys does.
+    fn find(&mut self, key: &[u64]) -> Option<Index>
+        ensures reads { Reads pairs home full_answers self.old self.new }
+        ensures agrees { IsInjective (pairs self.new) }
+        ensures found { IfSome result (λ i. words_at (pairs self.new) i ≡ Some key.now) }
+        ensures absent { IfNone result ((i : Index) → words_at (pairs self.old) i ≡ Some key.now → ⊥) }
+        ensures rows { GoesOn self.old.rows self.new.rows }
+    {
         self.pool.find(&mut self.seat, key)
     }
 
-    fn key_into(&mut self, i: Index, into: &mut KeyBuf) {
+    /// Goes on from the same rows, beside what every table of keys does.
+    fn key_into(&mut self, i: Index, into: &mut KeyBuf)
+        requires { IsSome (words_at (pairs self.old) i) }
+        ensures reads { Reads pairs home full_answers self.old self.new }
+        ensures agrees { IsInjective (pairs self.new) }
+        ensures words { words_at (pairs self.old) i ≡ Some into.new }
+        ensures rows { GoesOn self.old.rows self.new.rows }
+    {
         self.pool.key_into(&mut self.seat, i, into);
     }
 }
 
 impl<'p, R: Wait, N: PoolName, G: Gate> Interner for PoolSeat<'p, R, N, G> {
-    ghost fulls = { λ s. s.fulls };
-
     /// The answer Full comes exactly where the key's shard is at its numbers and the key is none of
     /// its rows.
     fn intern(&mut self, key: &[u64]) -> Result<Index, InternFault>
         requires some { 0 < length key.now }
         requires few { length key.now ≤ 64 }
-        ensures grows { Grows (pairs self.old) (pairs self.new) }
+        ensures interns { Interns pairs home full_answers self.old self.new (is_full result) }
         ensures agrees { IsInjective (pairs self.new) }
-        ensures home { self.new.rows.id.views_name ≡ self.old.rows.id.views_name }
         ensures place { IfOk result (λ i. words_at (pairs self.new) i ≡ Some key.now) }
-        ensures counted { self.old.fulls ≤ self.new.fulls }
-        ensures fault { IfErr result (Explains self.old.fulls self.new.fulls) }
         ensures rows { GoesOn self.old.rows self.new.rows }
         ensures full { IfErr result (IsFullFor self.new.rows key.now) }
     {

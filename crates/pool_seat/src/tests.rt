@@ -1,5 +1,6 @@
 // A sole seat used as an interner, up to its Full answer.
 ghost use Rattle.std.specs.Prelude.{◌<◌, ◌≤◌, length};
+ghost use Rattle.type_form.specs.Pool.{Interns, is_full};
 
 use crate::SoleSeat;
 use pool_shard::PoolRows;
@@ -10,6 +11,7 @@ use type_form::{Index, InternFault, Interner, KeyBuf, Keys};
 fn twice<I: Interner>(key: &[u64], p: &mut I) -> Result<bool, InternFault>
     requires some { 0 < length key.now }
     requires few { length key.now ≤ 64 }
+    ensures { Interns I.known I.home I.fulls p.old p.new (is_full result) }
 {
     let first = p.intern(key)?;
     let again = p.intern(key)?;
@@ -48,6 +50,8 @@ fn a_note_agrees_with_its_seat(rt: HostRuntime) -> Result<(), Fail> {
         panic!(rt; "no room")
     };
     assert!(rt; !seat.agree(two, &note, one));
+    // A call that knows the seat as an interner alone leaves it at its pool.
+    assert_eq!(rt; twice(&[3], &mut seat), Ok(true));
     seat.meet(note);
     assert_eq!(rt; seat.find(&[2]), Some(two));
     Ok(())

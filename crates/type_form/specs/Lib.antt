@@ -1,9 +1,9 @@
-pub mod Counts
 pub mod Denote
 pub mod Heights
 pub mod Known
 pub mod Layers
 pub mod Means
+pub mod Pool
 pub mod Spelling
 pub mod Tree
 pub mod Words

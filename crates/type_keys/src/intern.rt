@@ -1,23 +1,20 @@
 // Keys that an interner takes.
-ghost use Rattle.std.specs.Prelude.{◌≡◌, ◌≤◌, ℕ, List, IfOk, IfErr};
+ghost use Rattle.std.specs.Prelude.{ℕ, List, IfOk};
 ghost use Rattle.type_form.specs.declared.tree.Ty.{Ty};
 ghost use Rattle.type_form.specs.declared.tree.Value.{Value};
 ghost use Rattle.type_form.specs.declared.tree.DeclPath.{DeclPath};
 ghost use Rattle.type_form.specs.declared.unit.Instance.{Instance};
 ghost use Rattle.type_form.specs.Known.{Known, IsInjective};
-ghost use Rattle.type_form.specs.Means.{Grows, HasKey, DenotesTy, IsTyOf, DenotesValue, IsValueOf, DenotesDecl, IsDeclOf, DenotesInstance, IsInstanceOf, DenotesList, IsListOf};
-ghost use Rattle.type_form.specs.Counts.{Explains};
+ghost use Rattle.type_form.specs.Means.{HasKey, DenotesTy, IsTyOf, DenotesValue, IsValueOf, DenotesDecl, IsDeclOf, DenotesInstance, IsInstanceOf, DenotesList, IsListOf};
+ghost use Rattle.type_form.specs.Pool.{Interns, is_full};
 
 use crate::words::words_of;
 use type_form::{Index, InternFault, Interner, Key, KeyBuf};
 
 /// The index of a key. It denotes the tree that the key stands for.
 pub fn intern_key<I: Interner>(key: &Key, p: &mut I) -> Result<Index, InternFault>
-    ensures grows { Grows (I.known p.old) (I.known p.new) }
+    ensures interns { Interns I.known I.home I.fulls p.old p.new (is_full result) }
     ensures agrees { IsInjective (I.known p.new) }
-    ensures home { I.home p.new ≡ I.home p.old }
-    ensures counted { I.fulls p.old ≤ I.fulls p.new }
-    ensures fault { IfErr result (Explains (I.fulls p.old) (I.fulls p.new)) }
     ensures key { IfOk result (λ i. HasKey (I.known p.new) i key.now) }
     ensures ty { IfOk result (λ i. (x : Ty) → IsTyOf (I.known p.old) key.now x → DenotesTy (I.known p.new) i x) }
     ensures value { IfOk result (λ i. (x : Value) → IsValueOf (I.known p.old) key.now x → DenotesValue (I.known p.new) i x) }

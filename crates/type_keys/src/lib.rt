@@ -6,13 +6,15 @@
 //! Public calls: `words_of` and `key_of`, which are inverse; `intern_key` and one builder for each
 //! kind in `types`, `values` and `decls`; `intern_list`, `intern_bytes`, `read_list`; `key_behind`,
 //! `ty_key` and its kin, which go one layer down.
-//! The crate stands on `type_form`.
+//! The crate stands on `type_form` and, in its tests, on `zw_base`.
 #![tactic(auto)]
 
 mod build;
 mod intern;
 mod lists;
 mod reads;
+#[cfg(test)]
+mod tests;
 mod words;
 
 pub use build::{decls, types, values};

@@ -1,8 +1,8 @@
 // Lists of numbers, as chains of chunk keys.
-ghost use Rattle.std.specs.Prelude.{◌≡◌, ◌≤◌, ◌<◌, ◌++◌, length, IfOk, IfErr, OnOk};
+ghost use Rattle.std.specs.Prelude.{◌≡◌, ◌≤◌, ◌<◌, ◌++◌, length, IfOk, OnOk};
 ghost use Rattle.type_form.specs.Known.{Known, IsInjective};
-ghost use Rattle.type_form.specs.Means.{Grows, IsList, list_at, DenotesList};
-ghost use Rattle.type_form.specs.Counts.{Explains};
+ghost use Rattle.type_form.specs.Means.{IsList, list_at, DenotesList};
+ghost use Rattle.type_form.specs.Pool.{Reads, Interns, is_full};
 
 use crate::intern::intern_key;
 use crate::reads::list_key;
@@ -15,11 +15,8 @@ const CHUNK: usize = 60;
 /// A list of at most 60 numbers.
 pub fn short_list<I: Interner>(items: Few, p: &mut I) -> Result<Index, InternFault>
     requires { length items ≤ 60 }
-    ensures grows { Grows (I.known p.old) (I.known p.new) }
+    ensures interns { Interns I.known I.home I.fulls p.old p.new (is_full result) }
     ensures agrees { IsInjective (I.known p.new) }
-    ensures home { I.home p.new ≡ I.home p.old }
-    ensures counted { I.fulls p.old ≤ I.fulls p.new }
-    ensures fault { IfErr result (Explains (I.fulls p.old) (I.fulls p.new)) }
     ensures list { IfOk result (λ i. DenotesList (I.known p.new) i items) }
 {
     intern_key(&Key::End(items), p)
@@ -30,11 +27,8 @@ pub fn longer_list<I: Interner>(items: Few, rest: Index, p: &mut I) -> Result<In
     requires count { length items ≡ 60 }
     requires rest_known { IsList (I.known p.old) rest }
     requires some { 0 < length (list_at (I.known p.old) rest) }
-    ensures grows { Grows (I.known p.old) (I.known p.new) }
+    ensures interns { Interns I.known I.home I.fulls p.old p.new (is_full result) }
     ensures agrees { IsInjective (I.known p.new) }
-    ensures home { I.home p.new ≡ I.home p.old }
-    ensures counted { I.fulls p.old ≤ I.fulls p.new }
-    ensures fault { IfErr result (Explains (I.fulls p.old) (I.fulls p.new)) }
     ensures list { IfOk result (λ i. DenotesList (I.known p.new) i (items ++ list_at (I.known p.old) rest)) }
 {
     intern_key(&Key::More { items, rest }, p)
@@ -42,11 +36,8 @@ pub fn longer_list<I: Interner>(items: Few, rest: Index, p: &mut I) -> Result<In
 
 /// A list of numbers, which are indices or bytes.
 pub fn intern_list<I: Interner>(items: &[u64], p: &mut I) -> Result<Index, InternFault>
-    ensures grows { Grows (I.known p.old) (I.known p.new) }
+    ensures interns { Interns I.known I.home I.fulls p.old p.new (is_full result) }
     ensures agrees { IsInjective (I.known p.new) }
-    ensures home { I.home p.new ≡ I.home p.old }
-    ensures counted { I.fulls p.old ≤ I.fulls p.new }
-    ensures fault { IfErr result (Explains (I.fulls p.old) (I.fulls p.new)) }
     ensures list { IfOk result (λ i. DenotesList (I.known p.new) i items.now) }
 {
     let mut chunks = items.len().saturating_sub(1) / CHUNK;
@@ -62,11 +53,8 @@ pub fn intern_list<I: Interner>(items: &[u64], p: &mut I) -> Result<Index, Inter
 
 /// A list of bytes: a name, a path or a text.
 pub fn intern_bytes<I: Interner>(bytes: &[u8], p: &mut I) -> Result<Index, InternFault>
-    ensures grows { Grows (I.known p.old) (I.known p.new) }
+    ensures interns { Interns I.known I.home I.fulls p.old p.new (is_full result) }
     ensures agrees { IsInjective (I.known p.new) }
-    ensures home { I.home p.new ≡ I.home p.old }
-    ensures counted { I.fulls p.old ≤ I.fulls p.new }
-    ensures fault { IfErr result (Explains (I.fulls p.old) (I.fulls p.new)) }
     ensures list { IfOk result (λ i. DenotesList (I.known p.new) i bytes.now) }
 {
     let mut chunks = bytes.len().saturating_sub(1) / CHUNK;
@@ -83,9 +71,8 @@ pub fn intern_bytes<I: Interner>(bytes: &[u8], p: &mut I) -> Result<Index, Inter
 /// Appends the numbers of the list at an index to `into`. An Err leaves some of them there.
 pub fn read_list<P: Keys>(list: Index, p: &mut P, into: &mut Vec<u64>) -> Result<(), AllocError>
     requires { IsList (P.known p.old) list }
-    ensures grows { Grows (P.known p.old) (P.known p.new) }
-    ensures agrees { OnOk result (IsInjective (P.known p.new)) }
-    ensures home { P.home p.new ≡ P.home p.old }
+    ensures reads { Reads P.known P.home P.fulls p.old p.new }
+    ensures agrees { IsInjective (P.known p.new) }
     ensures items { OnOk result (into.new.items ≡ into.old.items ++ list_at (P.known p.old) list) }
 {
     let mut at = list;

@@ -1,8 +1,8 @@
 // One call for each kind of type.
-ghost use Rattle.std.specs.Prelude.{◌≡◌, ◌≤◌, IfOk, IfErr};
+ghost use Rattle.std.specs.Prelude.{IfOk};
 ghost use Rattle.type_form.specs.Known.{Known, IsInjective};
-ghost use Rattle.type_form.specs.Means.{Grows, AreArgs, AreLists, AreTys, DenotesTy, IsDecl, IsList, IsTy, args_at, decl_at, list_at, lists_at, ty_at, tys_at};
-ghost use Rattle.type_form.specs.Counts.{Explains};
+ghost use Rattle.type_form.specs.Means.{AreArgs, AreLists, AreTys, DenotesTy, IsDecl, IsList, IsTy, args_at, decl_at, list_at, lists_at, ty_at, tys_at};
+ghost use Rattle.type_form.specs.Pool.{Interns, is_full};
 ghost use Rattle.type_form.specs.declared.tree.Ty.TheVariants as ty;
 
 use crate::intern::intern_key;
@@ -10,11 +10,8 @@ use type_form::{Index, InternFault, Interner, Key, SimpleTy};
 
 /// A type that is one word.
 pub fn simple_type<I: Interner>(simple: SimpleTy, p: &mut I) -> Result<Index, InternFault>
-    ensures grows { Grows (I.known p.old) (I.known p.new) }
+    ensures interns { Interns I.known I.home I.fulls p.old p.new (is_full result) }
     ensures agrees { IsInjective (I.known p.new) }
-    ensures home { I.home p.new ≡ I.home p.old }
-    ensures counted { I.fulls p.old ≤ I.fulls p.new }
-    ensures fault { IfErr result (Explains (I.fulls p.old) (I.fulls p.new)) }
     ensures ty { IfOk result (λ i. DenotesTy (I.known p.new) i (ty.Simple simple)) }
 {
     intern_key(&Key::SimpleType(simple), p)
@@ -22,11 +19,8 @@ pub fn simple_type<I: Interner>(simple: SimpleTy, p: &mut I) -> Result<Index, In
 
 /// An integer type.
 pub fn int_type<I: Interner>(is_signed: bool, bits: u32, p: &mut I) -> Result<Index, InternFault>
-    ensures grows { Grows (I.known p.old) (I.known p.new) }
+    ensures interns { Interns I.known I.home I.fulls p.old p.new (is_full result) }
     ensures agrees { IsInjective (I.known p.new) }
-    ensures home { I.home p.new ≡ I.home p.old }
-    ensures counted { I.fulls p.old ≤ I.fulls p.new }
-    ensures fault { IfErr result (Explains (I.fulls p.old) (I.fulls p.new)) }
     ensures ty { IfOk result (λ i. DenotesTy (I.known p.new) i (ty.Int is_signed bits)) }
 {
     intern_key(&Key::IntType { is_signed, bits }, p)
@@ -35,11 +29,8 @@ pub fn int_type<I: Interner>(is_signed: bool, bits: u32, p: &mut I) -> Result<In
 /// An error set, by the list of its names, which are lists of bytes in byte order, each once.
 pub fn error_set_type<I: Interner>(names: Index, p: &mut I) -> Result<Index, InternFault>
     requires { AreLists (I.known p.old) names }
-    ensures grows { Grows (I.known p.old) (I.known p.new) }
+    ensures interns { Interns I.known I.home I.fulls p.old p.new (is_full result) }
     ensures agrees { IsInjective (I.known p.new) }
-    ensures home { I.home p.new ≡ I.home p.old }
-    ensures counted { I.fulls p.old ≤ I.fulls p.new }
-    ensures fault { IfErr result (Explains (I.fulls p.old) (I.fulls p.new)) }
     ensures ty { IfOk result (λ i. DenotesTy (I.known p.new) i (ty.ErrorSet (lists_at (I.known p.old) names))) }
 {
     intern_key(&Key::ErrorSetType { names }, p)
@@ -52,11 +43,8 @@ pub fn pointer_type<I: Interner>(
     p: &mut I,
 ) -> Result<Index, InternFault>
     requires { IsTy (I.known p.old) child }
-    ensures grows { Grows (I.known p.old) (I.known p.new) }
+    ensures interns { Interns I.known I.home I.fulls p.old p.new (is_full result) }
     ensures agrees { IsInjective (I.known p.new) }
-    ensures home { I.home p.new ≡ I.home p.old }
-    ensures counted { I.fulls p.old ≤ I.fulls p.new }
-    ensures fault { IfErr result (Explains (I.fulls p.old) (I.fulls p.new)) }
     ensures ty { IfOk result (λ i. DenotesTy (I.known p.new) i (ty.Pointer is_const (ty_at (I.known p.old) child))) }
 {
     intern_key(&Key::PointerType { is_const, child }, p)
@@ -69,11 +57,8 @@ pub fn slice_type<I: Interner>(
     p: &mut I,
 ) -> Result<Index, InternFault>
     requires { IsTy (I.known p.old) child }
-    ensures grows { Grows (I.known p.old) (I.known p.new) }
+    ensures interns { Interns I.known I.home I.fulls p.old p.new (is_full result) }
     ensures agrees { IsInjective (I.known p.new) }
-    ensures home { I.home p.new ≡ I.home p.old }
-    ensures counted { I.fulls p.old ≤ I.fulls p.new }
-    ensures fault { IfErr result (Explains (I.fulls p.old) (I.fulls p.new)) }
     ensures ty { IfOk result (λ i. DenotesTy (I.known p.new) i (ty.Slice is_const (ty_at (I.known p.old) child))) }
 {
     intern_key(&Key::SliceType { is_const, child }, p)
@@ -82,11 +67,8 @@ pub fn slice_type<I: Interner>(
 /// An array type.
 pub fn array_type<I: Interner>(length: u64, child: Index, p: &mut I) -> Result<Index, InternFault>
     requires { IsTy (I.known p.old) child }
-    ensures grows { Grows (I.known p.old) (I.known p.new) }
+    ensures interns { Interns I.known I.home I.fulls p.old p.new (is_full result) }
     ensures agrees { IsInjective (I.known p.new) }
-    ensures home { I.home p.new ≡ I.home p.old }
-    ensures counted { I.fulls p.old ≤ I.fulls p.new }
-    ensures fault { IfErr result (Explains (I.fulls p.old) (I.fulls p.new)) }
     ensures ty { IfOk result (λ i. DenotesTy (I.known p.new) i (ty.Array length (ty_at (I.known p.old) child))) }
 {
     intern_key(&Key::ArrayType { length, child }, p)
@@ -94,11 +76,8 @@ pub fn array_type<I: Interner>(length: u64, child: Index, p: &mut I) -> Result<I
 
 /// The type `[N:0]u8`.
 pub fn terminated_type<I: Interner>(length: u64, p: &mut I) -> Result<Index, InternFault>
-    ensures grows { Grows (I.known p.old) (I.known p.new) }
+    ensures interns { Interns I.known I.home I.fulls p.old p.new (is_full result) }
     ensures agrees { IsInjective (I.known p.new) }
-    ensures home { I.home p.new ≡ I.home p.old }
-    ensures counted { I.fulls p.old ≤ I.fulls p.new }
-    ensures fault { IfErr result (Explains (I.fulls p.old) (I.fulls p.new)) }
     ensures ty { IfOk result (λ i. DenotesTy (I.known p.new) i (ty.Terminated length)) }
 {
     intern_key(&Key::TerminatedType { length }, p)
@@ -107,11 +86,8 @@ pub fn terminated_type<I: Interner>(length: u64, p: &mut I) -> Result<Index, Int
 /// An optional type.
 pub fn optional_type<I: Interner>(child: Index, p: &mut I) -> Result<Index, InternFault>
     requires { IsTy (I.known p.old) child }
-    ensures grows { Grows (I.known p.old) (I.known p.new) }
+    ensures interns { Interns I.known I.home I.fulls p.old p.new (is_full result) }
     ensures agrees { IsInjective (I.known p.new) }
-    ensures home { I.home p.new ≡ I.home p.old }
-    ensures counted { I.fulls p.old ≤ I.fulls p.new }
-    ensures fault { IfErr result (Explains (I.fulls p.old) (I.fulls p.new)) }
     ensures ty { IfOk result (λ i. DenotesTy (I.known p.new) i (ty.Optional (ty_at (I.known p.old) child))) }
 {
     intern_key(&Key::OptionalType { child }, p)
@@ -125,11 +101,8 @@ pub fn error_union_type<I: Interner>(
 ) -> Result<Index, InternFault>
     requires set_known { IsTy (I.known p.old) set }
     requires payload_known { IsTy (I.known p.old) payload }
-    ensures grows { Grows (I.known p.old) (I.known p.new) }
+    ensures interns { Interns I.known I.home I.fulls p.old p.new (is_full result) }
     ensures agrees { IsInjective (I.known p.new) }
-    ensures home { I.home p.new ≡ I.home p.old }
-    ensures counted { I.fulls p.old ≤ I.fulls p.new }
-    ensures fault { IfErr result (Explains (I.fulls p.old) (I.fulls p.new)) }
     ensures ty { IfOk result (λ i. DenotesTy (I.known p.new) i (ty.ErrorUnion (ty_at (I.known p.old) set) (ty_at (I.known p.old) payload))) }
 {
     intern_key(&Key::ErrorUnionType { set, payload }, p)
@@ -138,11 +111,8 @@ pub fn error_union_type<I: Interner>(
 /// A file as a type, by the list of its path's bytes.
 pub fn file_type<I: Interner>(path: Index, p: &mut I) -> Result<Index, InternFault>
     requires { IsList (I.known p.old) path }
-    ensures grows { Grows (I.known p.old) (I.known p.new) }
+    ensures interns { Interns I.known I.home I.fulls p.old p.new (is_full result) }
     ensures agrees { IsInjective (I.known p.new) }
-    ensures home { I.home p.new ≡ I.home p.old }
-    ensures counted { I.fulls p.old ≤ I.fulls p.new }
-    ensures fault { IfErr result (Explains (I.fulls p.old) (I.fulls p.new)) }
     ensures ty { IfOk result (λ i. DenotesTy (I.known p.new) i (ty.File (list_at (I.known p.old) path))) }
 {
     intern_key(&Key::FileType { path }, p)
@@ -157,11 +127,8 @@ pub fn container_type<I: Interner>(
 ) -> Result<Index, InternFault>
     requires decl_known { IsDecl (I.known p.old) decl }
     requires captures_known { AreArgs (I.known p.old) captures }
-    ensures grows { Grows (I.known p.old) (I.known p.new) }
+    ensures interns { Interns I.known I.home I.fulls p.old p.new (is_full result) }
     ensures agrees { IsInjective (I.known p.new) }
-    ensures home { I.home p.new ≡ I.home p.old }
-    ensures counted { I.fulls p.old ≤ I.fulls p.new }
-    ensures fault { IfErr result (Explains (I.fulls p.old) (I.fulls p.new)) }
     ensures ty { IfOk result (λ i. DenotesTy (I.known p.new) i (ty.Container (decl_at (I.known p.old) decl) ordinal (args_at (I.known p.old) captures))) }
 {
     intern_key(
@@ -182,11 +149,8 @@ pub fn function_type<I: Interner>(
 ) -> Result<Index, InternFault>
     requires params_known { AreTys (I.known p.old) params }
     requires returned_known { IsTy (I.known p.old) returned }
-    ensures grows { Grows (I.known p.old) (I.known p.new) }
+    ensures interns { Interns I.known I.home I.fulls p.old p.new (is_full result) }
     ensures agrees { IsInjective (I.known p.new) }
-    ensures home { I.home p.new ≡ I.home p.old }
-    ensures counted { I.fulls p.old ≤ I.fulls p.new }
-    ensures fault { IfErr result (Explains (I.fulls p.old) (I.fulls p.new)) }
     ensures ty { IfOk result (λ i. DenotesTy (I.known p.new) i (ty.Function (tys_at (I.known p.old) params) (ty_at (I.known p.old) returned))) }
 {
     intern_key(

@@ -1,8 +1,8 @@
 // One call for each kind of value.
-ghost use Rattle.std.specs.Prelude.{◌≡◌, ◌≤◌, IfOk, IfErr};
+ghost use Rattle.std.specs.Prelude.{IfOk};
 ghost use Rattle.type_form.specs.Known.{Known, IsInjective};
-ghost use Rattle.type_form.specs.Means.{Grows, AreValues, DenotesValue, IsDecl, IsList, IsTy, IsValue, decl_at, list_at, ty_at, value_at, values_at};
-ghost use Rattle.type_form.specs.Counts.{Explains};
+ghost use Rattle.type_form.specs.Means.{AreValues, DenotesValue, IsDecl, IsList, IsTy, IsValue, decl_at, list_at, ty_at, value_at, values_at};
+ghost use Rattle.type_form.specs.Pool.{Interns, is_full};
 ghost use Rattle.type_form.specs.declared.tree.Value.TheVariants as value;
 
 use crate::intern::intern_key;
@@ -15,11 +15,8 @@ pub fn simple_value<I: Interner>(
     p: &mut I,
 ) -> Result<Index, InternFault>
     requires { IsTy (I.known p.old) ty }
-    ensures grows { Grows (I.known p.old) (I.known p.new) }
+    ensures interns { Interns I.known I.home I.fulls p.old p.new (is_full result) }
     ensures agrees { IsInjective (I.known p.new) }
-    ensures home { I.home p.new ≡ I.home p.old }
-    ensures counted { I.fulls p.old ≤ I.fulls p.new }
-    ensures fault { IfErr result (Explains (I.fulls p.old) (I.fulls p.new)) }
     ensures value { IfOk result (λ i. DenotesValue (I.known p.new) i (value.Simple (ty_at (I.known p.old) ty) simple)) }
 {
     intern_key(&Key::SimpleValue { ty, value: simple }, p)
@@ -28,11 +25,8 @@ pub fn simple_value<I: Interner>(
 /// An integer.
 pub fn int_value<I: Interner>(ty: Index, number: i128, p: &mut I) -> Result<Index, InternFault>
     requires { IsTy (I.known p.old) ty }
-    ensures grows { Grows (I.known p.old) (I.known p.new) }
+    ensures interns { Interns I.known I.home I.fulls p.old p.new (is_full result) }
     ensures agrees { IsInjective (I.known p.new) }
-    ensures home { I.home p.new ≡ I.home p.old }
-    ensures counted { I.fulls p.old ≤ I.fulls p.new }
-    ensures fault { IfErr result (Explains (I.fulls p.old) (I.fulls p.new)) }
     ensures value { IfOk result (λ i. DenotesValue (I.known p.new) i (value.Int (ty_at (I.known p.old) ty) number)) }
 {
     intern_key(&Key::IntValue { ty, number }, p)
@@ -42,11 +36,8 @@ pub fn int_value<I: Interner>(ty: Index, number: i128, p: &mut I) -> Result<Inde
 pub fn tag_value<I: Interner>(ty: Index, name: Index, p: &mut I) -> Result<Index, InternFault>
     requires ty_known { IsTy (I.known p.old) ty }
     requires name_known { IsList (I.known p.old) name }
-    ensures grows { Grows (I.known p.old) (I.known p.new) }
+    ensures interns { Interns I.known I.home I.fulls p.old p.new (is_full result) }
     ensures agrees { IsInjective (I.known p.new) }
-    ensures home { I.home p.new ≡ I.home p.old }
-    ensures counted { I.fulls p.old ≤ I.fulls p.new }
-    ensures fault { IfErr result (Explains (I.fulls p.old) (I.fulls p.new)) }
     ensures value { IfOk result (λ i. DenotesValue (I.known p.new) i (value.Tag (ty_at (I.known p.old) ty) (list_at (I.known p.old) name))) }
 {
     intern_key(&Key::TagValue { ty, name }, p)
@@ -56,11 +47,8 @@ pub fn tag_value<I: Interner>(ty: Index, name: Index, p: &mut I) -> Result<Index
 pub fn error_value<I: Interner>(ty: Index, name: Index, p: &mut I) -> Result<Index, InternFault>
     requires ty_known { IsTy (I.known p.old) ty }
     requires name_known { IsList (I.known p.old) name }
-    ensures grows { Grows (I.known p.old) (I.known p.new) }
+    ensures interns { Interns I.known I.home I.fulls p.old p.new (is_full result) }
     ensures agrees { IsInjective (I.known p.new) }
-    ensures home { I.home p.new ≡ I.home p.old }
-    ensures counted { I.fulls p.old ≤ I.fulls p.new }
-    ensures fault { IfErr result (Explains (I.fulls p.old) (I.fulls p.new)) }
     ensures value { IfOk result (λ i. DenotesValue (I.known p.new) i (value.Error (ty_at (I.known p.old) ty) (list_at (I.known p.old) name))) }
 {
     intern_key(&Key::ErrorValue { ty, name }, p)
@@ -70,11 +58,8 @@ pub fn error_value<I: Interner>(ty: Index, name: Index, p: &mut I) -> Result<Ind
 pub fn some_value<I: Interner>(ty: Index, payload: Index, p: &mut I) -> Result<Index, InternFault>
     requires ty_known { IsTy (I.known p.old) ty }
     requires payload_known { IsValue (I.known p.old) payload }
-    ensures grows { Grows (I.known p.old) (I.known p.new) }
+    ensures interns { Interns I.known I.home I.fulls p.old p.new (is_full result) }
     ensures agrees { IsInjective (I.known p.new) }
-    ensures home { I.home p.new ≡ I.home p.old }
-    ensures counted { I.fulls p.old ≤ I.fulls p.new }
-    ensures fault { IfErr result (Explains (I.fulls p.old) (I.fulls p.new)) }
     ensures value { IfOk result (λ i. DenotesValue (I.known p.new) i (value.Some (ty_at (I.known p.old) ty) (value_at (I.known p.old) payload))) }
 {
     intern_key(&Key::SomeValue { ty, payload }, p)
@@ -84,11 +69,8 @@ pub fn some_value<I: Interner>(ty: Index, payload: Index, p: &mut I) -> Result<I
 pub fn good_value<I: Interner>(ty: Index, payload: Index, p: &mut I) -> Result<Index, InternFault>
     requires ty_known { IsTy (I.known p.old) ty }
     requires payload_known { IsValue (I.known p.old) payload }
-    ensures grows { Grows (I.known p.old) (I.known p.new) }
+    ensures interns { Interns I.known I.home I.fulls p.old p.new (is_full result) }
     ensures agrees { IsInjective (I.known p.new) }
-    ensures home { I.home p.new ≡ I.home p.old }
-    ensures counted { I.fulls p.old ≤ I.fulls p.new }
-    ensures fault { IfErr result (Explains (I.fulls p.old) (I.fulls p.new)) }
     ensures value { IfOk result (λ i. DenotesValue (I.known p.new) i (value.Good (ty_at (I.known p.old) ty) (value_at (I.known p.old) payload))) }
 {
     intern_key(&Key::GoodValue { ty, payload }, p)
@@ -98,11 +80,8 @@ pub fn good_value<I: Interner>(ty: Index, payload: Index, p: &mut I) -> Result<I
 pub fn list_value<I: Interner>(ty: Index, parts: Index, p: &mut I) -> Result<Index, InternFault>
     requires ty_known { IsTy (I.known p.old) ty }
     requires parts_known { AreValues (I.known p.old) parts }
-    ensures grows { Grows (I.known p.old) (I.known p.new) }
+    ensures interns { Interns I.known I.home I.fulls p.old p.new (is_full result) }
     ensures agrees { IsInjective (I.known p.new) }
-    ensures home { I.home p.new ≡ I.home p.old }
-    ensures counted { I.fulls p.old ≤ I.fulls p.new }
-    ensures fault { IfErr result (Explains (I.fulls p.old) (I.fulls p.new)) }
     ensures value { IfOk result (λ i. DenotesValue (I.known p.new) i (value.List (ty_at (I.known p.old) ty) (values_at (I.known p.old) parts))) }
 {
     intern_key(&Key::ListValue { ty, parts }, p)
@@ -112,11 +91,8 @@ pub fn list_value<I: Interner>(ty: Index, parts: Index, p: &mut I) -> Result<Ind
 pub fn text_value<I: Interner>(ty: Index, bytes: Index, p: &mut I) -> Result<Index, InternFault>
     requires ty_known { IsTy (I.known p.old) ty }
     requires bytes_known { IsList (I.known p.old) bytes }
-    ensures grows { Grows (I.known p.old) (I.known p.new) }
+    ensures interns { Interns I.known I.home I.fulls p.old p.new (is_full result) }
     ensures agrees { IsInjective (I.known p.new) }
-    ensures home { I.home p.new ≡ I.home p.old }
-    ensures counted { I.fulls p.old ≤ I.fulls p.new }
-    ensures fault { IfErr result (Explains (I.fulls p.old) (I.fulls p.new)) }
     ensures value { IfOk result (λ i. DenotesValue (I.known p.new) i (value.Text (ty_at (I.known p.old) ty) (list_at (I.known p.old) bytes))) }
 {
     intern_key(&Key::TextValue { ty, bytes }, p)
@@ -132,11 +108,8 @@ pub fn tagged_value<I: Interner>(
     requires ty_known { IsTy (I.known p.old) ty }
     requires name_known { IsList (I.known p.old) name }
     requires payload_known { IsValue (I.known p.old) payload }
-    ensures grows { Grows (I.known p.old) (I.known p.new) }
+    ensures interns { Interns I.known I.home I.fulls p.old p.new (is_full result) }
     ensures agrees { IsInjective (I.known p.new) }
-    ensures home { I.home p.new ≡ I.home p.old }
-    ensures counted { I.fulls p.old ≤ I.fulls p.new }
-    ensures fault { IfErr result (Explains (I.fulls p.old) (I.fulls p.new)) }
     ensures value { IfOk result (λ i. DenotesValue (I.known p.new) i (value.Tagged (ty_at (I.known p.old) ty) (list_at (I.known p.old) name) (value_at (I.known p.old) payload))) }
 {
     intern_key(&Key::TaggedValue { ty, name, payload }, p)
@@ -145,11 +118,8 @@ pub fn tagged_value<I: Interner>(
 /// A type as a value.
 pub fn type_value<I: Interner>(of: Index, p: &mut I) -> Result<Index, InternFault>
     requires { IsTy (I.known p.old) of }
-    ensures grows { Grows (I.known p.old) (I.known p.new) }
+    ensures interns { Interns I.known I.home I.fulls p.old p.new (is_full result) }
     ensures agrees { IsInjective (I.known p.new) }
-    ensures home { I.home p.new ≡ I.home p.old }
-    ensures counted { I.fulls p.old ≤ I.fulls p.new }
-    ensures fault { IfErr result (Explains (I.fulls p.old) (I.fulls p.new)) }
     ensures value { IfOk result (λ i. DenotesValue (I.known p.new) i (value.OfType (ty_at (I.known p.old) of))) }
 {
     intern_key(&Key::TypeValue { of }, p)
@@ -159,11 +129,8 @@ pub fn type_value<I: Interner>(of: Index, p: &mut I) -> Result<Index, InternFaul
 pub fn function_value<I: Interner>(ty: Index, decl: Index, p: &mut I) -> Result<Index, InternFault>
     requires ty_known { IsTy (I.known p.old) ty }
     requires decl_known { IsDecl (I.known p.old) decl }
-    ensures grows { Grows (I.known p.old) (I.known p.new) }
+    ensures interns { Interns I.known I.home I.fulls p.old p.new (is_full result) }
     ensures agrees { IsInjective (I.known p.new) }
-    ensures home { I.home p.new ≡ I.home p.old }
-    ensures counted { I.fulls p.old ≤ I.fulls p.new }
-    ensures fault { IfErr result (Explains (I.fulls p.old) (I.fulls p.new)) }
     ensures value { IfOk result (λ i. DenotesValue (I.known p.new) i (value.Function (ty_at (I.known p.old) ty) (decl_at (I.known p.old) decl))) }
 {
     intern_key(&Key::FunctionValue { ty, decl }, p)
@@ -173,11 +140,8 @@ pub fn function_value<I: Interner>(ty: Index, decl: Index, p: &mut I) -> Result<
 pub fn address_value<I: Interner>(ty: Index, decl: Index, p: &mut I) -> Result<Index, InternFault>
     requires ty_known { IsTy (I.known p.old) ty }
     requires decl_known { IsDecl (I.known p.old) decl }
-    ensures grows { Grows (I.known p.old) (I.known p.new) }
+    ensures interns { Interns I.known I.home I.fulls p.old p.new (is_full result) }
     ensures agrees { IsInjective (I.known p.new) }
-    ensures home { I.home p.new ≡ I.home p.old }
-    ensures counted { I.fulls p.old ≤ I.fulls p.new }
-    ensures fault { IfErr result (Explains (I.fulls p.old) (I.fulls p.new)) }
     ensures value { IfOk result (λ i. DenotesValue (I.known p.new) i (value.Address (ty_at (I.known p.old) ty) (decl_at (I.known p.old) decl))) }
 {
     intern_key(&Key::AddressValue { ty, decl }, p)
@@ -191,11 +155,8 @@ pub fn constant_value<I: Interner>(
 ) -> Result<Index, InternFault>
     requires ty_known { IsTy (I.known p.old) ty }
     requires target_known { IsValue (I.known p.old) target }
-    ensures grows { Grows (I.known p.old) (I.known p.new) }
+    ensures interns { Interns I.known I.home I.fulls p.old p.new (is_full result) }
     ensures agrees { IsInjective (I.known p.new) }
-    ensures home { I.home p.new ≡ I.home p.old }
-    ensures counted { I.fulls p.old ≤ I.fulls p.new }
-    ensures fault { IfErr result (Explains (I.fulls p.old) (I.fulls p.new)) }
     ensures value { IfOk result (λ i. DenotesValue (I.known p.new) i (value.Constant (ty_at (I.known p.old) ty) (value_at (I.known p.old) target))) }
 {
     intern_key(&Key::ConstantValue { ty, target }, p)
@@ -211,11 +172,8 @@ pub fn slice_value<I: Interner>(
 ) -> Result<Index, InternFault>
     requires ty_known { IsTy (I.known p.old) ty }
     requires pointer_known { IsValue (I.known p.old) pointer }
-    ensures grows { Grows (I.known p.old) (I.known p.new) }
+    ensures interns { Interns I.known I.home I.fulls p.old p.new (is_full result) }
     ensures agrees { IsInjective (I.known p.new) }
-    ensures home { I.home p.new ≡ I.home p.old }
-    ensures counted { I.fulls p.old ≤ I.fulls p.new }
-    ensures fault { IfErr result (Explains (I.fulls p.old) (I.fulls p.new)) }
     ensures value { IfOk result (λ i. DenotesValue (I.known p.new) i (value.Slice (ty_at (I.known p.old) ty) (value_at (I.known p.old) pointer) low high)) }
 {
     intern_key(

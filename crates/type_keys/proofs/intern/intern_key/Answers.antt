@@ -21,33 +21,33 @@ pub returns-clause-ty : goal.returns-clause-ty
 returns-clause-ty g c =
     if_ok c.intern.result (λ i. HasKey (g.I.Keys.known c.intern.new.self) i c.args.key.now) _
     (λ i h x o. DenotesTy-of (g.I.Keys.known c.intern.new.self) i c.args.key.now x h
-    (IsTyOf-grows (g.I.Keys.known c.args.p.now) (g.I.Keys.known c.intern.new.self) c.intern.ensures.grows c.args.key.now x o))
+    (IsTyOf-grows (g.I.Keys.known c.args.p.now) (g.I.Keys.known c.intern.new.self) c.intern.ensures.interns.grows c.args.key.now x o))
     (returns-clause-key g c)
 
 pub returns-clause-value : goal.returns-clause-value
 returns-clause-value g c =
     if_ok c.intern.result (λ i. HasKey (g.I.Keys.known c.intern.new.self) i c.args.key.now) _
     (λ i h x o. DenotesValue-of (g.I.Keys.known c.intern.new.self) i c.args.key.now x h
-    (IsValueOf-grows (g.I.Keys.known c.args.p.now) (g.I.Keys.known c.intern.new.self) c.intern.ensures.grows c.args.key.now x o))
+    (IsValueOf-grows (g.I.Keys.known c.args.p.now) (g.I.Keys.known c.intern.new.self) c.intern.ensures.interns.grows c.args.key.now x o))
     (returns-clause-key g c)
 
 pub returns-clause-decl : goal.returns-clause-decl
 returns-clause-decl g c =
     if_ok c.intern.result (λ i. HasKey (g.I.Keys.known c.intern.new.self) i c.args.key.now) _
     (λ i h x o. DenotesDecl-of (g.I.Keys.known c.intern.new.self) i c.args.key.now x h
-    (IsDeclOf-grows (g.I.Keys.known c.args.p.now) (g.I.Keys.known c.intern.new.self) c.intern.ensures.grows c.args.key.now x o))
+    (IsDeclOf-grows (g.I.Keys.known c.args.p.now) (g.I.Keys.known c.intern.new.self) c.intern.ensures.interns.grows c.args.key.now x o))
     (returns-clause-key g c)
 
 pub returns-clause-instance : goal.returns-clause-instance
 returns-clause-instance g c =
     if_ok c.intern.result (λ i. HasKey (g.I.Keys.known c.intern.new.self) i c.args.key.now) _
     (λ i h x o. DenotesInstance-of (g.I.Keys.known c.intern.new.self) i c.args.key.now x h
-    (IsInstanceOf-grows (g.I.Keys.known c.args.p.now) (g.I.Keys.known c.intern.new.self) c.intern.ensures.grows c.args.key.now x o))
+    (IsInstanceOf-grows (g.I.Keys.known c.args.p.now) (g.I.Keys.known c.intern.new.self) c.intern.ensures.interns.grows c.args.key.now x o))
     (returns-clause-key g c)
 
 pub returns-clause-list : goal.returns-clause-list
 returns-clause-list g c =
     if_ok c.intern.result (λ i. HasKey (g.I.Keys.known c.intern.new.self) i c.args.key.now) _
     (λ i h x o. DenotesList-of (g.I.Keys.known c.intern.new.self) i c.args.key.now x h
-    (IsListOf-grows (g.I.Keys.known c.args.p.now) (g.I.Keys.known c.intern.new.self) c.intern.ensures.grows c.args.key.now x o))
+    (IsListOf-grows (g.I.Keys.known c.args.p.now) (g.I.Keys.known c.intern.new.self) c.intern.ensures.interns.grows c.args.key.now x o))
     (returns-clause-key g c)

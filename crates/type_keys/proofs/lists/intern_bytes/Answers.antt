@@ -1,6 +1,6 @@
 use Rattle.std.proofs.Common.{◌≡◌, ℕ, ◌+◌, ◌-◌, ◌*◌, ◌<◌, ◌≤◌, ◌++◌, List, take, drop, length, ap, ap₂, ◌∙◌, arith, sym}
 use Rattle.std.proofs.lemmas.List.{take-append-drop, drop-drop}
-use Rattle.type_form.proofs.MeansLemmas.{Grows-trans}
+use Rattle.type_form.proofs.PoolLemmas.{Interns-then}
 use Rattle.type_keys.proofs.lists.intern_bytes.Goals as goal
 
 -- a chunk and what follows it
@@ -15,10 +15,8 @@ loop-chunks-preserved g c =
     let i = c.loop-chunks.invariant in
     let d = c.in_ok-list-2.ensures.list in
     record {
-      grows = Grows-trans (g.I.Keys.known c.args.p.now) (g.I.Keys.known c.loop-chunks.p) (g.I.Keys.known c.longer_list.new.p) i.grows c.longer_list.ensures.grows;
+      interns = Interns-then i.interns (rw c.in_ok-list-2.was at c.longer_list.ensures.interns);
       agrees = c.longer_list.ensures.agrees;
-      home = c.longer_list.ensures.home ∙ i.home;
-      counted = omega (arith, i.counted, c.longer_list.ensures.counted);
       list = record {
         known = d.known;
         is = d.is ∙ ap₂ (λ xs ys. xs ++ ys) c.of_bytes-chunk.ensures i.list.is

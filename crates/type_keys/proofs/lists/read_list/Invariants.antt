@@ -1,5 +1,6 @@
 use Rattle.std.proofs.Common.{◌≡◌, ◌++◌, length}
-use Rattle.type_form.specs.Means.{Grows, IsList, list_at}
+use Rattle.type_form.specs.Means.{IsList, list_at}
+use Rattle.type_form.specs.Pool.{Reads}
 use Rattle.type_keys.proofs.lists.read_list.Given as goal
 
 -- what was read, and what the rest of the chain holds, is the whole list
@@ -7,8 +8,7 @@ abbrev pub invariant-loop-items : goal.invariant-loop-items
 invariant-loop-items g l =
     let known = g.P.Keys.known in
     record {
-      grows : Grows (known l.fn.p) (known l.p);
-      home : g.P.Keys.home l.p ≡ g.P.Keys.home l.fn.p;
+      reads : Reads known g.P.Keys.home g.P.Keys.fulls l.fn.p l.p;
       rest : IsList (known l.p) l.at;
       items : l.into.items ++ list_at (known l.p) l.at ≡ l.fn.into.items ++ list_at (known l.fn.p) l.fn.list;
     }

@@ -1,4 +1,4 @@
-use Rattle.std.proofs.Common.{◌≡◌, ◌∙◌, ◌++◌, ◌≤◌, ap, subst, sym, Some, None, List, [], ◌∷◌, ℕ, Option, length, slice_get, if◌then◌else◌}
+use Rattle.std.proofs.Common.{◌≡◌, ◌∙◌, ◌++◌, ◌≤◌, ap, refl, subst, sym, Some, None, List, [], ◌∷◌, ℕ, Option, length, slice_get, if◌then◌else◌}
 use Rattle.std.specs.Str.{bytes_eq}
 use Rattle.type_form.specs.Known.{words_at, IsInjective}
 use Rattle.type_form.specs.Words.{index_of}
@@ -32,11 +32,15 @@ returns-in-Some-clause-place c =
     subst (λ r. words_at (numbered 0 r) (index_of c.in-Some.place) ≡ Some c.args.key.now) c.self.view_is
     (known_at c.self.inside.rows.items (index_of c.in-Some.place) ∙ c.self.invariant.found c.args.key.now c.in-Some.place (sym c.place_of.ensures ∙ c.in-Some.is))
 
-pub returns-in_ok-place-in-None-clause-grows : goal.returns-in_ok-place-in-None-clause-grows
-returns-in_ok-place-in-None-clause-grows c =
+pub returns-in_ok-place-in-None-clause-interns : goal.returns-in_ok-place-in-None-clause-interns
+returns-in_ok-place-in-None-clause-interns c =
     let grown = Matches-grows c.add.new.places c.self.inside.rows.items c.args.key.now (added c) in
     let here = subst (λ r. Grows (numbered 0 c.self.inside.rows.items) (numbered 0 r)) (sym c.in_ok-place-in-None.ensures.rows) grown in
-    subst (λ r. Grows (numbered 0 r) (numbered 0 c.add.new.rows.items)) c.self.view_is here
+    record {
+      grows = subst (λ r. Grows (numbered 0 r) (numbered 0 c.add.new.rows.items)) c.self.view_is here;
+      same_home = refl;
+      counts = refl;
+    }
 
 pub returns-in_ok-place-in-None-clause-agrees : goal.returns-in_ok-place-in-None-clause-agrees
 returns-in_ok-place-in-None-clause-agrees c = Matches-injective c.add.new.places c.add.new.rows.items (invariant_of-self-in-None c)
