@@ -12,3 +12,4 @@ pub mod Firsts
 pub mod Requests
 pub mod Stages
 pub mod Meanings
+pub mod Folds

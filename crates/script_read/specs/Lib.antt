@@ -8,3 +8,4 @@ pub mod Reads
 pub mod Grammar
 pub mod Causes
 pub mod ScriptLaw
+pub mod Fold

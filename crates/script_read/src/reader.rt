@@ -29,12 +29,13 @@ impl ScriptReader {
     ghost use Rattle.std.specs.Prelude.{◌≡◌, ◌≤◌, ◌⊎◌, None, Some, IfSome, IfNone, Err};
     ghost use Rattle.zw_base.specs.Outside.{Rose};
     ghost use Rattle.zw_base.specs.Limits.{AreWithin};
+    ghost use Rattle.script_read.specs.Fold.{reader_of};
     ghost use Rattle.script_read.specs.Reads.{Answers, answer_of, after};
     ghost use Rattle.script_read.specs.ScriptLaw.{HasCause, IsExact};
 
     /// A reader before the first byte of a script.
     pub fn new(shape: Limits) -> ScriptReader
-        ensures { result ≡ record { limits = shape; line = 1; commands = 0; stopped = None } }
+        ensures { result ≡ reader_of shape }
     {
         ScriptReader {
             limits: shape,
