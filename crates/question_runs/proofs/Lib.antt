@@ -3,3 +3,5 @@ pub mod RunParts
 pub mod GrowingRuns
 pub mod GrowingRounds
 pub mod TogetherRounds
+mod Needs
+mod AtRest

@@ -1,13 +1,14 @@
 -- The rounds, read as one function of results.
 use Rattle.std.proofs.Common.{◌≡◌, ℕ, suc, ◌≤◌, max, List, [], Option, Some, None, refl, sym, ap, ◌∙◌, subst, arith}
 use Rattle.std.proofs.Math.Nat.{le-max_left, le-max_right}
-use Rattle.std.specs.Option.{option_map, option_and_then}
+use Rattle.std.specs.Option.{option_map}
 use Rattle.question_runs.specs.Runs.{asked, referred, Run, ends, fails, stops, goes, Answers, stop_of}
 use Rattle.question_runs.specs.RunLaws.{Lower}
 use Rattle.question_runs.specs.Rounds.{Language, answer_by, now, run_by, result_of, needs, Meets, round, run_at, Demanded, root, met, Stuck}
 use Rattle.question_runs.specs.RoundLaws.{HasAllResults, DemandedBy, by_root, by_run, Together}
 use Rattle.question_runs.proofs.RunSteps.{Answers-run, run-same}
 use Rattle.question_runs.proofs.GrowingRuns.{continues-stop, Answers-stop}
+use Rattle.question_runs.proofs.Needs.{needs-stop, map-none}
 use Rattle.question_runs.proofs.GrowingRounds.{now-lower, run_by-continues, continues-meets, round-grows}
 
 -- an answer that is there with all results is there at some round, and one that is not is there at none
@@ -79,29 +80,20 @@ module _ {Q A U R : Type 0} (l : Language Q A U R) (files : Q → A) (results : 
   none-by u n None is none = refl
   none-by u n (Some r) is none = let there : results u ≡ Some r = up n u r is in absurd (cc)
 
-  -- the question that a run needs an answer to
-  needs-stop : (r : Run Q A U R) (v : U) (x : Option Q) → stop_of r ≡ x → option_and_then l.unit_asked x ≡ Some v → (q : Q) × (stop_of r ≡ Some q) × (l.unit_asked q ≡ Some v)
-  needs-stop r v None is e = absurd (cc)
-  needs-stop r v (Some q) is e = (q, is, e)
-
   stuck-by : (roots : List U) (u v : U) → Stuck l files roots u v → DemandedBy l files results roots u × (results u ≡ None) × (needs l (run_by l files results u) ≡ Some v)
   stuck-by roots u v w =
       let n : ℕ = w.needs_it.0 in
-      let at : (q : Q) × (stop_of (run_at l files n u) ≡ Some q) × (l.unit_asked q ≡ Some v) = needs-stop (run_at l files n u) v (stop_of (run_at l files n u)) refl w.needs_it.1 in
+      let at : (q : Q) × (stop_of (run_at l files n u) ≡ Some q) × (l.unit_asked q ≡ Some v) = needs-stop l (run_at l files n u) v (stop_of (run_at l files n u)) refl w.needs_it.1 in
       let none : now l files results at.0 ≡ None = ap (answer_by (files at.0) l.answer_of results) at.2 ∙ ap (option_map l.answer_of) (none-at v (results v) refl w.it_has_none) in
       let is : run_by l files results u ≡ run_at l files n u = continues-stop (now l files results) (run_at l files n u) (run_by l files results u) at.0 (run_by-continues l files (round l files n) results (up n) u) (Answers-run l.setting (now l files results) (l.elab u) []) at.1 none in
       (demanded-by roots u w.demanded, none-at u (results u) refl w.none, ap (needs l) is ∙ w.needs_it.1)
 
-  map-none : (x : Option R) → option_map l.answer_of x ≡ None → x ≡ None
-  map-none None e = refl
-  map-none (Some r) e = absurd (cc)
-
   stuck-at : (roots : List U) (u v : U) → DemandedBy l files results roots u × (results u ≡ None) × (needs l (run_by l files results u) ≡ Some v) → Stuck l files roots u v
   stuck-at roots u v (d, none, e) =
       let n : ℕ = (run-from u).0 in
-      let at : (q : Q) × (stop_of (run_by l files results u) ≡ Some q) × (l.unit_asked q ≡ Some v) = needs-stop (run_by l files results u) v (stop_of (run_by l files results u)) refl e in
+      let at : (q : Q) × (stop_of (run_by l files results u) ≡ Some q) × (l.unit_asked q ≡ Some v) = needs-stop l (run_by l files results u) v (stop_of (run_by l files results u)) refl e in
       let stop : now l files results at.0 ≡ None = Answers-stop (now l files results) (run_by l files results u) at.0 (Answers-run l.setting (now l files results) (l.elab u) []) at.1 in
-      let v_none : results v ≡ None = map-none (results v) (ap (answer_by (files at.0) l.answer_of results) (sym at.2) ∙ stop) in
+      let v_none : results v ≡ None = map-none l.answer_of (results v) (ap (answer_by (files at.0) l.answer_of results) (sym at.2) ∙ stop) in
       record {
         demanded = demanded-at roots u d;
         none = λ k. none-by u k (round l files k u) refl none;

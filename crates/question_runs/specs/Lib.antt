@@ -3,4 +3,5 @@ pub mod Runs
 pub mod RunLaws
 pub mod Rounds
 pub mod RoundLaws
+pub mod RestLaws
 pub mod Kept

@@ -10,6 +10,7 @@
 
 ghost use Rattle.question_runs.specs.RunLaws.{RunsHonestly, RunsByAnswers, MoreAnswers, OtherAnswers, FirstParts, TracesLead, OneTurn, OneThenAnother};
 ghost use Rattle.question_runs.specs.RoundLaws.{RoundsGrow, RoundRunsGrow, RoundsTogether};
+ghost use Rattle.question_runs.specs.RestLaws.{BeginsSound, KnowsSoundly, FinishesSoundly, EndedStays, WaitingStays, RestIsWhole};
 
 /// The answers of a run are those at hand, and a run depends on them alone.
 pub fn runs_by_answers<Question, Answer, Unit, Outcome>()
@@ -36,4 +37,15 @@ pub fn results_by_rounds<Question, Answer, Unit, Outcome>()
     ensures grow { RoundsGrow Question Answer Unit Outcome }
     ensures runs_grow { RoundRunsGrow Question Answer Unit Outcome }
     ensures together { RoundsTogether Question Answer Unit Outcome }
+{}
+
+/// Whoever takes up units one after the other, in whatever order, and comes to rest, has the demanded
+/// units with their results, and the stuck ones with what they need.
+pub fn results_at_rest<Question, Answer, Unit, Outcome>()
+    ensures begins { BeginsSound Question Answer Unit Outcome }
+    ensures knows { KnowsSoundly Question Answer Unit Outcome }
+    ensures finishes { FinishesSoundly Question Answer Unit Outcome }
+    ensures ended { EndedStays Question Answer Unit Outcome }
+    ensures waiting { WaitingStays Question Answer Unit Outcome }
+    ensures whole { RestIsWhole Question Answer Unit Outcome }
 {}
