@@ -25,7 +25,8 @@ mod width;
 
 use division::{exact_floor, exact_quotient, floor_remainder, remainder};
 use exact::{Exact, exact_difference, exact_product, exact_sum};
-use range::{answer, power_of_two};
+use range::answer;
+pub use range::power_of_two;
 use shift::{doubled_far, halved, is_bad_shift};
 pub use types::{IntOut, IntType, Mode};
 pub use width::BitWidth;

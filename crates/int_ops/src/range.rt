@@ -7,7 +7,8 @@ ghost use Rattle.int_ops.specs.Exact.{StandsFor};
 use crate::exact::Exact;
 use crate::types::{IntOut, IntType, Mode};
 
-pub(crate) fn power_of_two(exponent: u32) -> i128
+/// 2 to the power of an exponent.
+pub fn power_of_two(exponent: u32) -> i128
     requires { exponent < 127 }
     ensures { result ≡ pos (2 ^ exponent) }
 {

@@ -1,0 +1,11 @@
+pub mod Questions
+pub mod State
+pub mod Asking
+pub mod Places
+pub mod Coercion
+pub mod Names
+pub mod Numbers
+pub mod Control
+pub mod Elab
+pub mod Units
+pub mod Standing

@@ -1,0 +1,64 @@
+-- Names: primitive types and values, and declarations (Zig Language Reference 0.14, "Primitive Types", "Primitive
+-- Values", "Container Level Variables").
+use Rattle.std.specs.Prelude.{ℕ, zero, List, true, false}
+use Rattle.zir_form.specs.declared.primitive.Primitive.{Primitive}
+use Rattle.zir_form.specs.declared.primitive.Primitive.TheVariants as primitive
+use Rattle.type_form.specs.declared.tree.Ty.{Ty, out-Ty}
+use Rattle.type_form.specs.declared.tree.Ty.TheVariants as ty
+use Rattle.type_form.specs.declared.tree.Value.{Value}
+use Rattle.type_form.specs.declared.tree.Value.TheVariants as value
+use Rattle.type_form.specs.declared.tree.DeclPath.TheVariants as path
+use Rattle.type_form.specs.declared.tree.Arg.TheOpen as layer
+use Rattle.type_form.specs.declared.tree.SimpleTy.{SimpleTy}
+use Rattle.type_form.specs.declared.tree.SimpleTy.TheVariants as simple
+use Rattle.type_form.specs.declared.tree.SimpleValue.TheVariants as word
+use Rattle.type_form.specs.declared.unit.Unit.TheVariants as unit
+use Rattle.type_form.specs.Tree.{TyLayer}
+use Rattle.elab_form.specs.Questions.{Answer, given, constant, result}
+use Rattle.elab_form.specs.State.{Frame, Operand, known}
+use Rattle.elab_form.specs.Asking.{Elab, pure, asking, not_built}
+
+-- ---- primitives
+
+abbrev pub simple_type : SimpleTy → Value
+simple_type s = value.OfType (ty.Simple s)
+
+abbrev pub primitive_value : Primitive → Value
+primitive_value (primitive.Unsigned bits) = value.OfType (ty.Int false bits)
+primitive_value (primitive.Signed bits) = value.OfType (ty.Int true bits)
+primitive_value primitive.Usize = simple_type simple.Usize
+primitive_value primitive.Isize = simple_type simple.Isize
+primitive_value primitive.Bool = simple_type simple.Bool
+primitive_value primitive.Void = simple_type simple.Void
+primitive_value primitive.Noreturn = simple_type simple.Noreturn
+primitive_value primitive.Type = simple_type simple.Metatype
+primitive_value primitive.ComptimeInt = simple_type simple.ComptimeInt
+primitive_value primitive.AnyError = simple_type simple.AnyError
+primitive_value primitive.True = value.Simple (ty.Simple simple.Bool) word.True
+primitive_value primitive.False = value.Simple (ty.Simple simple.Bool) word.False
+primitive_value primitive.Null = value.Simple (ty.Simple simple.NullLiteral) word.Null
+primitive_value primitive.Undefined = value.Simple (ty.Simple simple.UndefinedLiteral) word.Undefined
+
+-- a primitive type or value asks nothing
+abbrev pub primitive_form : Primitive → Elab Operand
+primitive_form p = pure (known (primitive_value p))
+
+-- ---- declarations
+
+-- what the declaration's result gives: the value of a constant or a function
+abbrev pub declared_value : Frame → (place : ℕ) → Answer → Elab Operand
+declared_value f place (given (constant v)) = pure (known v)
+declared_value f place _ = not_built f place
+
+-- a name of a declaration in a container asks for the declaration's result
+abbrev pub declared_in : Frame → (place : ℕ) → Ty → List ℕ → Elab Operand
+declared_in f place container name = asking (result (unit.Decl (path.Named container name))) (declared_value f place)
+
+-- The file that the part lies in is the container of depth 0. Parts of other containers have no rule yet.
+abbrev pub declared_at : Frame → (place : ℕ) → (depth : ℕ) → List ℕ → TyLayer → Elab Operand
+declared_at f place zero name (layer.File p) = declared_in f place f.container name
+declared_at f place _ name _ = not_built f place
+
+-- a name of a declaration of a container around the part, by the container's depth
+abbrev pub declared_form : Frame → (place : ℕ) → (depth : ℕ) → List ℕ → Elab Operand
+declared_form f place depth name = declared_at f place depth name (out-Ty f.container)
