@@ -13,3 +13,4 @@ pub mod Requests
 pub mod Stages
 pub mod Meanings
 pub mod Folds
+pub mod Fronts

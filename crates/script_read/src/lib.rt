@@ -4,7 +4,8 @@
 //! first cause that stands, for the files' sizes, the limits and how many commands came before. The grammar
 //! of a command's text and the causes in their order are properties of lists of bytes; a function on lists
 //! computes the meaning. How the source cuts the bytes into reads is no part of it. After any answer but a
-//! command the reader gives the same answer again and reads nothing.
+//! command the reader gives the same answer again and reads nothing. What a whole script does is a fold of
+//! its commands over any state that has files (`specs/Fold.antt`).
 //! Public calls: `ScriptReader::new`, `ScriptReader::next`, and the laws `bytes_have_one_meaning` and
 //! `commands_have_their_lines`.
 //! The crate stands on `zw_base` alone.
