@@ -7,15 +7,17 @@ use Rattle.type_form.specs.Denote.{denoted, list_in}
 use Rattle.pool_words.specs.Layout.{Row}
 use Rattle.pool_words.specs.Rule.{In}
 use Rattle.pool_shard.specs.Pairs.{Rows, known, known_of}
-use Rattle.pool_seat.specs.declared.roles.Role.{Role}
-use Rattle.pool_seat.specs.declared.roles.Role.TheVariants as role
-use Rattle.pool_seat.specs.Roles.{role_at}
-use Rattle.pool_seat.specs.Reach.{IsIndex, Reached, Live, Word}
+use Rattle.type_form.specs.declared.roles.Role.{Role}
+use Rattle.type_form.specs.declared.roles.Role.TheVariants as role
+use Rattle.type_form.specs.Roles.{role_at}
+use Rattle.type_form.specs.Reach.{IsIndex, Live, Word}
+use Rattle.pool_seat.specs.Reach.{Reached}
 use Rattle.pool_seat.specs.Moves.{Pairs, IsMoved, AreMoved, IsListMoved, WordMoves, AreApart, HasMoved, IsRehomed}
 use Rattle.pool_seat.specs.declared.mover.Mover.{Mover}
 use Rattle.pool_seat.specs.Movers.{IsMover}
 use Rattle.pool_seat.proofs.Depths.{In-at, In-front, In-back}
-use Rattle.pool_seat.proofs.RowMoves.{after_first, IsEnd, IsMore, deep_key, heads, tails}
+use Rattle.type_form.proofs.PartLemmas.{after_first}
+use Rattle.pool_seat.proofs.RowMoves.{IsEnd, IsMore, deep_key, heads, tails}
 
 -- an index was moved; the parts of a list were
 abbrev Done : Known → Pairs → Bool → ℕ → Type 0
@@ -45,12 +47,12 @@ deep_done k moved i kind ws p c (ns, is, all) words l x = ⊎_elim short long (d
   where
     short : IsEnd k i ns → Done k moved c (slice_index ws p)
     short e =
-        let a : kind ≡ 30 = heads kind 30 ws ns (words_at k (index_of i)) words e.words in
-        let b : ns ≡ ws = tails 30 kind ns ws (words_at k (index_of i)) e.words words in
+        let a : kind ≡ 36 = heads kind 36 ws ns (words_at k (index_of i)) words e.words in
+        let b : ns ≡ ws = tails 36 kind ns ws (words_at k (index_of i)) e.words words in
         let y : c ≡ false = subst (λ n. IsIndex true (role_at n true p) c) a x in
         subst (λ b. Done k moved b (slice_index ws p)) (sym y) (all (slice_index ws p) (subst (λ (us : List ℕ). In (slice_index us p) ns) b (In-at ns p (subst (λ (us : List ℕ). p < length us) (sym b) l))))
 
-    at_place : (e : IsMore k i ns) (q : ℕ) → q < length (e.rest ∷ e.front) → IsIndex true (role_at 31 true q) c → Done k moved c (slice_index (e.rest ∷ e.front) q)
+    at_place : (e : IsMore k i ns) (q : ℕ) → q < length (e.rest ∷ e.front) → IsIndex true (role_at 37 true q) c → Done k moved c (slice_index (e.rest ∷ e.front) q)
     at_place e zero l y = subst (λ b. Done k moved b e.rest) (sym y) (e.back, e.behind, λ n i. all n (subst (In n) (sym e.whole) (In-back n e.front e.back i)))
     at_place e (suc q) l y =
         let z : c ≡ false = subst (λ b. IsIndex true (if b then role.Rest else role.Part) c) (after_first q) y in
@@ -58,8 +60,8 @@ deep_done k moved i kind ws p c (ns, is, all) words l x = ⊎_elim short long (d
 
     long : IsMore k i ns → Done k moved c (slice_index ws p)
     long e =
-        let a : kind ≡ 31 = heads kind 31 ws (e.rest ∷ e.front) (words_at k (index_of i)) words e.words in
-        let b : e.rest ∷ e.front ≡ ws = tails 31 kind (e.rest ∷ e.front) ws (words_at k (index_of i)) e.words words in
+        let a : kind ≡ 37 = heads kind 37 ws (e.rest ∷ e.front) (words_at k (index_of i)) words e.words in
+        let b : e.rest ∷ e.front ≡ ws = tails 37 kind (e.rest ∷ e.front) ws (words_at k (index_of i)) e.words words in
         subst (λ (us : List ℕ). Done k moved c (slice_index us p)) b (at_place e p (subst (λ (us : List ℕ). p < length us) (sym b) l) (subst (λ n. IsIndex true (role_at n true p) c) a x))
 
 shallow_done : (k : Known) (live : List Index) (q : Rows) (moved : Pairs) (i kind : ℕ) (ws : List ℕ) (p : ℕ) (c : Bool) → HasMoved k live q moved → Done k moved false i → words_at k (index_of i) ≡ Some (kind ∷ ws) → p < length ws → IsIndex false (role_at kind false p) c → Done k moved c (slice_index ws p)

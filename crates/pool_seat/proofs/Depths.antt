@@ -2,6 +2,7 @@
 use Rattle.std.proofs.Common.{◌≡◌, inl, inr, ⊎_elim, ℕ, zero, suc, ◌+◌, ◌*◌, ◌/◌, ◌%◌, ◌^◌, ◌<◌, ◌≤◌, max, Bool, true, false, if◌then◌else◌, List, [], ◌∷◌, ◌++◌, length, slice_index, take, Option, Some, None, IsSome, is_some, unwrap_or, pos, negsuc, refl, sym, ap, ◌∙◌, subst, arith}
 use Rattle.std.proofs.lemmas.List.{length-take}
 use Rattle.std.proofs.Math.Nat.{le-max_left, le-max_right, max-le}
+use Rattle.std.specs.List.{AllByRecursion}
 use Rattle.std.specs.Str.{bytes_eq}
 use Rattle.type_form.specs.declared.index.Index.{Index}
 use Rattle.type_form.specs.declared.key.Key.{Key}
@@ -14,10 +15,10 @@ use Rattle.type_form.proofs.KeyKinds.{list_in-lower}
 use Rattle.type_form.proofs.Options.{then_tells, some_lower}
 use Rattle.type_form.proofs.WordLemmas.{words_of-key_of}
 use Rattle.pool_words.specs.Rule.{In}
-use Rattle.pool_seat.specs.declared.roles.Role.{Role}
-use Rattle.pool_seat.specs.declared.roles.Role.TheVariants as role
+use Rattle.type_form.specs.declared.roles.Role.{Role}
+use Rattle.type_form.specs.declared.roles.Role.TheVariants as role
 use Rattle.pool_seat.specs.Movers.{WordNeeds, lowest, height, greatest, work, word_work}
-use Rattle.pool_seat.proofs.Parts.{PartOf}
+use Rattle.type_form.specs.Parts.{PartOf}
 
 low_holds : (test : ℕ → Bool) (n : ℕ) → test n ≡ true → test (lowest test n) ≡ true
 low_holds test zero h = h
@@ -104,6 +105,7 @@ fits (key.OptionalType i) h = tt
 fits (key.ErrorUnionType i j) h = tt
 fits (key.FileType l) h = tt
 fits (key.FunctionType l i) h = tt
+fits (key.UnionTagType i) h = tt
 fits (key.SimpleValue i s) h = tt
 fits (key.TagValue i l) h = tt
 fits (key.ErrorValue i l) h = tt
@@ -113,11 +115,16 @@ fits (key.ListValue i l) h = tt
 fits (key.TextValue i l) h = tt
 fits (key.TaggedValue i l j) h = tt
 fits (key.TypeValue i) h = tt
-fits (key.FunctionValue i d) h = tt
+fits (key.FunctionValue d) h = tt
 fits (key.AddressValue i d) h = tt
 fits (key.ConstantValue i j) h = tt
+fits (key.PlaceValue i n) h = tt
+fits (key.PartValue i j n c) h = tt
 fits (key.SliceValue i j lo hi) h = tt
 fits (key.NamedDecl i l) h = tt
+fits (key.KnownArg j) h = tt
+fits (key.FunctionArg i d) h = tt
+fits (key.TypedArg i) h = tt
 fits (key.Instance d l) h = tt
 
 -- the key at an index that denotes something, and what it denotes where its parts are read one step less deep
@@ -196,6 +203,10 @@ pub part_work : (k : Known) (i : ℕ) → work k false i ≡ 2 * height k i
 unfolding work
 part_work k i = refl
 
+all_in : (P : ℕ → Type 0) (ns : List ℕ) → AllByRecursion P ns → (n : ℕ) → In n ns → P n
+all_in P [] a n i = absurd i
+all_in P (m ∷ ns) a n i = ⊎_elim (λ q. subst P (sym q) a.0) (λ j. all_in P ns a.1 n j) i
+
 pub part_fits : (k : Known) (d : ℕ) (r : Role) (w : ℕ) → PartOf (reading d k) r w → WordFits k r w (8 * d + 8)
 part_fits k d role.Number w h = record { needs = tt; less = omega arith }
 part_fits k d role.Rest w h = record { needs = tt; less = omega arith }
@@ -206,6 +217,7 @@ part_fits k d role.Part w h =
 part_fits k d role.List w h =
     let ns : List ℕ = h.0 in
     let is : list_in (denoted k) (index_of w) ≡ Some ns = list_in-lower (reading d k) (denoted k) (reaches d k) (index_of w) ns h.1 in
-    let g : greatest (height k) ns ≤ d = greatest_least (height k) ns d (λ n i. height_least k n d (h.2 n i)) in
+    let each : (n : ℕ) → In n ns → IsSome (reading d k (index_of n)) = all_in (λ n. IsSome (reading d k (index_of n))) ns h.2 in
+    let g : greatest (height k) ns ≤ d = greatest_least (height k) ns d (λ n i. height_least k n d (each n i)) in
     let e = list_work k w ns is in
-    record { needs = (ns, is, λ n i. some_lower _ _ (reaches d k (index_of n)) (h.2 n i)); less = omega arith }
+    record { needs = (ns, is, λ n i. some_lower _ _ (reaches d k (index_of n)) (each n i)); less = omega arith }

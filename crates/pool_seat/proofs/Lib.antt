@@ -4,7 +4,6 @@ pub mod Kept
 pub mod Moved
 pub mod Moving
 pub mod Ordering
-pub mod Parts
 pub mod RowMoves
 pub mod RowResults
 pub mod Trees

@@ -13,11 +13,11 @@ use Rattle.pool_words.specs.Layout.{Row}
 use Rattle.pool_words.specs.Rule.{In}
 use Rattle.pool_words.proofs.Members.{In-left, In-last, In-push}
 use Rattle.pool_shard.specs.Pairs.{Rows, known, known_of, HasNot, AddsAtMost}
-use Rattle.pool_seat.specs.declared.roles.Role.{Role}
-use Rattle.pool_seat.specs.declared.roles.Role.TheVariants as role
+use Rattle.type_form.specs.declared.roles.Role.{Role}
+use Rattle.type_form.specs.declared.roles.Role.TheVariants as role
 use Rattle.pool_seat.specs.declared.mover.Mover.{Mover}
 use Rattle.pool_seat.specs.Reach.{Reached}
-use Rattle.pool_seat.specs.Roles.{role_at}
+use Rattle.type_form.specs.Roles.{role_at}
 use Rattle.pool_seat.specs.Moves.{IsSame, Pairs, IsMoved, AreMoved, IsListMoved, Becomes, WordMoves, IsNewKey, AreApart, HasMoved, SameRows}
 use Rattle.pool_seat.specs.Movers.{Later, HasTree, IsMover}
 

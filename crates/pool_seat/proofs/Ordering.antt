@@ -7,10 +7,10 @@ use Rattle.type_form.specs.Known.{Known, words_at}
 use Rattle.type_form.specs.Words.{index_of}
 use Rattle.pool_words.specs.Rule.{In}
 use Rattle.pool_words.proofs.Members.{In-left, In-last, In-push}
-use Rattle.pool_seat.specs.declared.roles.Role.{Role}
-use Rattle.pool_seat.specs.declared.roles.Role.TheVariants as role
-use Rattle.pool_seat.specs.Roles.{role_at}
-use Rattle.pool_seat.specs.Reach.{IsIndex}
+use Rattle.type_form.specs.declared.roles.Role.{Role}
+use Rattle.type_form.specs.declared.roles.Role.TheVariants as role
+use Rattle.type_form.specs.Roles.{role_at}
+use Rattle.type_form.specs.Reach.{IsIndex}
 use Rattle.pool_seat.specs.Moves.{Pairs, IsMoved}
 use Rattle.pool_seat.specs.Order.{joined, own, Listed, Row, AllListed, is_among, added, adding, olds}
 use Rattle.pool_seat.specs.Movers.{HasTree, HasParts, AddsTree, AddsParts, WordAdds, AddsAll}
@@ -186,12 +186,12 @@ trees_note k moved i j h s a b m =
     (moved_cases moved i j a b m)
 
 -- of a list with a rest the rest is first
-pub chain_adds : (k : Known) (b : Bool) (c e : ℕ) (us : List ℕ) (before mid after : Pairs) → words_at k (index_of c) ≡ Some (31 ∷ e ∷ us) → AddsTree k b e before mid → AddsTree k b c mid after → AddsTree k b c before after
+pub chain_adds : (k : Known) (b : Bool) (c e : ℕ) (us : List ℕ) (before mid after : Pairs) → words_at k (index_of c) ≡ Some (37 ∷ e ∷ us) → AddsTree k b e before mid → AddsTree k b c mid after → AddsTree k b c before after
 unfolding role_at
 chain_adds k b c e us before mid after w s t =
     let y = inside k b c t.listing t.listed in
-    let a : y.kind ≡ 31 = heads y.kind 31 y.ws (e ∷ us) (words_at k (index_of c)) y.words w in
-    let d : y.ws ≡ e ∷ us = tails y.kind 31 y.ws (e ∷ us) (words_at k (index_of c)) y.words w in
+    let a : y.kind ≡ 37 = heads y.kind 37 y.ws (e ∷ us) (words_at k (index_of c)) y.words w in
+    let d : y.ws ≡ e ∷ us = tails y.kind 37 y.ws (e ∷ us) (words_at k (index_of c)) y.words w in
     let first : Listed k b e (y.parts 0) = subst (λ (ws : List ℕ). Listed k b (slice_index ws 0) (y.parts 0)) d (y.each 0 b (subst (λ (ws : List ℕ). 0 < length ws) (sym d) (omega arith)) (subst (λ n. IsIndex b (role_at n b 0) b) (sym a) refl)) in
     let same : y.parts 0 ≡ s.listing = same_listing k b e (y.parts 0) first s.listing s.listed in
     let j = joined_first y.parts (length us) in

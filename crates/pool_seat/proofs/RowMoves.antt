@@ -12,66 +12,18 @@ use Rattle.type_form.proofs.Depth.{reaches}
 use Rattle.type_form.proofs.MeansLemmas.{list_part, IsListOf-key, IsList-has_key, list_whole}
 use Rattle.type_form.proofs.Options.{then_tells, some_lower}
 use Rattle.pool_words.specs.Rule.{In}
-use Rattle.pool_seat.specs.declared.roles.Role.{Role}
-use Rattle.pool_seat.specs.declared.roles.Role.TheVariants as role
-use Rattle.pool_seat.specs.Roles.{four, roles_of, role_in_list, role_at}
-use Rattle.pool_seat.specs.Reach.{IsIndex, Reached, Word}
+use Rattle.type_form.specs.declared.roles.Role.{Role}
+use Rattle.type_form.specs.declared.roles.Role.TheVariants as role
+use Rattle.type_form.specs.Roles.{role_at}
+use Rattle.type_form.specs.Reach.{IsIndex, Word}
+use Rattle.pool_seat.specs.Reach.{Reached}
 use Rattle.pool_seat.specs.Movers.{AllDenote, Needs, WordReached, height, work, IsChain}
-use Rattle.pool_seat.proofs.Parts.{PartOf, kind_of, rest_of, parts, list_in_some}
+use Rattle.type_form.specs.Parts.{PartOf, kind_of, rest_of}
+use Rattle.type_form.proofs.PartLemmas.{after_first, rest_role, parts_denote, list_in_some}
 use Rattle.pool_seat.proofs.Depths.{at_depth, key_words, some_of, one_some, height_least, greatest_has, greatest_back, In-at, In-front, In-back, WordFits, list_work, part_work, part_fits}
 
-abbrev is_rest : Role → Bool
-is_rest role.Rest = true
-is_rest _ = false
-
--- no role stands behind the fourth word, and none is a rest
-abbrev IsFour : List Role → Type 0
-IsFour rs = (p : ℕ) → (4 ≤ p → get_or rs p role.Number ≡ role.Number) × (is_rest (get_or rs p role.Number) ≡ false)
-
-is_four : (a b c d : Role) → is_rest a ≡ false → is_rest b ≡ false → is_rest c ≡ false → is_rest d ≡ false → IsFour (four a b c d)
-is_four a b c d x y z w zero = (λ l. absurd (omega (arith, l)), x)
-is_four a b c d x y z w (suc zero) = (λ l. absurd (omega (arith, l)), y)
-is_four a b c d x y z w (suc (suc zero)) = (λ l. absurd (omega (arith, l)), z)
-is_four a b c d x y z w (suc (suc (suc zero))) = (λ l. absurd (omega (arith, l)), w)
-is_four a b c d x y z w (suc (suc (suc (suc p)))) = (λ l. refl, refl)
-
-four_if : (b : Bool) (x y : List Role) → IsFour x → IsFour y → IsFour (if b then x else y)
-four_if true x y f g = f
-four_if false x y f g = g
-
-are_four : (kind : ℕ) → IsFour (roles_of kind)
-are_four kind = four_if (kind == 3) _ _ (is_four _ _ _ _ refl refl refl refl) (four_if (kind == 4) _ _ (is_four _ _ _ _ refl refl refl refl) (four_if (kind == 5) _ _ (is_four _ _ _ _ refl refl refl refl) (four_if (kind == 6) _ _ (is_four _ _ _ _ refl refl refl refl) (four_if (kind == 8) _ _ (is_four _ _ _ _ refl refl refl refl) (four_if (kind == 9) _ _ (is_four _ _ _ _ refl refl refl refl) (four_if (kind == 10) _ _ (is_four _ _ _ _ refl refl refl refl) (four_if (kind == 11) _ _ (is_four _ _ _ _ refl refl refl refl) (four_if (kind == 12) _ _ (is_four _ _ _ _ refl refl refl refl) (four_if (kind == 13) _ _ (is_four _ _ _ _ refl refl refl refl) (four_if (kind == 14) _ _ (is_four _ _ _ _ refl refl refl refl) (four_if (kind == 15) _ _ (is_four _ _ _ _ refl refl refl refl) (four_if (kind == 16) _ _ (is_four _ _ _ _ refl refl refl refl) (four_if (kind == 17) _ _ (is_four _ _ _ _ refl refl refl refl) (four_if (kind == 18) _ _ (is_four _ _ _ _ refl refl refl refl) (four_if (kind == 19) _ _ (is_four _ _ _ _ refl refl refl refl) (four_if (kind == 20) _ _ (is_four _ _ _ _ refl refl refl refl) (four_if (kind == 21) _ _ (is_four _ _ _ _ refl refl refl refl) (four_if (kind == 22) _ _ (is_four _ _ _ _ refl refl refl refl) (four_if (kind == 23) _ _ (is_four _ _ _ _ refl refl refl refl) (four_if (kind == 24) _ _ (is_four _ _ _ _ refl refl refl refl) (four_if (kind == 25) _ _ (is_four _ _ _ _ refl refl refl refl) (four_if (kind == 26) _ _ (is_four _ _ _ _ refl refl refl refl) (four_if (kind == 27) _ _ (is_four _ _ _ _ refl refl refl refl) (four_if (kind == 28) _ _ (is_four _ _ _ _ refl refl refl refl) (four_if (kind == 29) _ _ (is_four _ _ _ _ refl refl refl refl) (is_four _ _ _ _ refl refl refl refl))))))))))))))))))))))))))
-
-pub roles_end : (kind p : ℕ) → 4 ≤ p → get_or (roles_of kind) p role.Number ≡ role.Number
-roles_end kind p l = (are_four kind p).0 l
-
-if_role : (b : Bool) (x y z : Role) → (if b then x else y) ≡ z → ((b ≡ true) × (x ≡ z)) ⊎ ((b ≡ false) × (y ≡ z))
-if_role true x y z e = inl (refl, e)
-if_role false x y z e = inr (refl, e)
-
-no_rest : (x : Role) → is_rest x ≡ false → x ≡ role.Rest → ⊥
-no_rest x f e = not_both (is_rest x) f (ap is_rest e)
-  where
-    not_both : (b : Bool) → b ≡ false → b ≡ true → ⊥
-    not_both b f e = cc
-
--- a rest is the first word of a list
-pub rest_role : (kind : ℕ) (b : Bool) (p : ℕ) → role_at kind b p ≡ role.Rest → (kind ≡ 31) × (p ≡ 0)
-unfolding role_at
-rest_role kind b p e = ⊎_elim
-    (λ low. ⊎_elim (λ near. absurd (no_rest (get_or (roles_of kind) p role.Number) (are_four kind p).1 near.1)) (λ far. absurd (no_rest role.Number refl far.1)) (if_role (nat_lt p 4) (get_or (roles_of kind) p role.Number) role.Number role.Rest low.1))
-    (λ list. ⊎_elim
-    (λ more. ⊎_elim (λ first. (eqb-true kind 31 more.0, eqb-true p 0 first.0)) (λ other. absurd (number_or_part b other.1)) (if_role (p == 0) role.Rest (if b then role.Part else role.Number) role.Rest more.1))
-    (λ short. absurd (number_or_part b short.1))
-    (if_role (kind == 31) (if p == 0 then role.Rest else if b then role.Part else role.Number) (if b then role.Part else role.Number) role.Rest list.1))
-    (if_role (nat_lt kind 30) (if nat_lt p 4 then get_or (roles_of kind) p role.Number else role.Number) (role_in_list kind b p) role.Rest e)
-  where
-    number_or_part : (b : Bool) → (if b then role.Part else role.Number) ≡ role.Rest → ⊥
-    number_or_part true e = no_rest role.Part refl e
-    number_or_part false e = no_rest role.Number refl e
-
 -- the key of a list with a rest
-more_key : (k : Key) (x : ℕ) (us : List ℕ) → words_of k ≡ 31 ∷ x ∷ us → k ≡ key.More us (index_of x)
+more_key : (k : Key) (x : ℕ) (us : List ℕ) → words_of k ≡ 37 ∷ x ∷ us → k ≡ key.More us (index_of x)
 more_key (key.More ns i) x us e = let a : i.0 ≡ x = cc in let b : ns ≡ us = cc in ap₂ (λ (ns : List ℕ) (i : Index). key.More ns i) b (ap index_of a)
 more_key k x us e = absurd (omega (arith, ap (λ (ws : List ℕ). slice_index ws 0) e))
 
@@ -89,6 +41,7 @@ words_start (key.ErrorUnionType i j) = refl
 words_start (key.FileType l) = refl
 words_start (key.ContainerType d n l) = refl
 words_start (key.FunctionType l i) = refl
+words_start (key.UnionTagType i) = refl
 words_start (key.SimpleValue i s) = refl
 words_start (key.IntValue i z) = refl
 words_start (key.TagValue i l) = refl
@@ -99,17 +52,22 @@ words_start (key.ListValue i l) = refl
 words_start (key.TextValue i l) = refl
 words_start (key.TaggedValue i l j) = refl
 words_start (key.TypeValue i) = refl
-words_start (key.FunctionValue i d) = refl
+words_start (key.FunctionValue d) = refl
 words_start (key.AddressValue i d) = refl
 words_start (key.ConstantValue i j) = refl
+words_start (key.PlaceValue i n) = refl
+words_start (key.PartValue i j n c) = refl
 words_start (key.SliceValue i j lo hi) = refl
 words_start (key.NamedDecl i l) = refl
 words_start (key.ComptimeDecl l n) = refl
+words_start (key.KnownArg j) = refl
+words_start (key.FunctionArg i d) = refl
+words_start (key.TypedArg i) = refl
 words_start (key.Instance d l) = refl
 words_start (key.End ns) = refl
 words_start (key.More ns i) = refl
 
-more_words : (k : Key) → kind_of k ≡ 31 → (x : ℕ) × (us : List ℕ) × (words_of k ≡ 31 ∷ x ∷ us)
+more_words : (k : Key) → kind_of k ≡ 37 → (x : ℕ) × (us : List ℕ) × (words_of k ≡ 37 ∷ x ∷ us)
 more_words (key.More ns i) e = (i.0, ns, refl)
 more_words k e = absurd (omega (arith, e))
 
@@ -120,7 +78,7 @@ row_starts k i ws some e =
     let a = at_depth k i s.0 s.1 in
     subst (λ (us : List ℕ). us ≡ slice_index us 0 ∷ drop 1 us) (one_some (words_of a.1.key) ws (words_at k (index_of i)) a.1.words e) (words_start a.1.key)
 
-pub list_starts : (k : Known) (i : ℕ) (ws : List ℕ) → IsSome (denoted k (index_of i)) → words_at k (index_of i) ≡ Some ws → slice_index ws 0 ≡ 31 → (x : ℕ) × (us : List ℕ) × (ws ≡ 31 ∷ x ∷ us)
+pub list_starts : (k : Known) (i : ℕ) (ws : List ℕ) → IsSome (denoted k (index_of i)) → words_at k (index_of i) ≡ Some ws → slice_index ws 0 ≡ 37 → (x : ℕ) × (us : List ℕ) × (ws ≡ 37 ∷ x ∷ us)
 list_starts k i ws some e first =
     let s = some_of (denoted k (index_of i)) some in
     let a = at_depth k i s.0 s.1 in
@@ -131,21 +89,21 @@ list_starts k i ws some e first =
 -- a list in one key
 pub record IsEnd (k : Known) (i : ℕ) (ns : List ℕ) : Type 0 where
   pub short : length ns ≤ 60
-  pub words : words_at k (index_of i) ≡ Some (30 ∷ ns)
+  pub words : words_at k (index_of i) ≡ Some (36 ∷ ns)
 
 -- a longer one
 pub record IsMore (k : Known) (i : ℕ) (ns : List ℕ) : Type 0 where
   pub rest : ℕ
   pub front : List ℕ
   pub back : List ℕ
-  pub words : words_at k (index_of i) ≡ Some (31 ∷ rest ∷ front)
+  pub words : words_at k (index_of i) ≡ Some (37 ∷ rest ∷ front)
   pub full : length front ≡ 60
   pub some : 0 < length back
   pub behind : list_in (denoted k) (index_of rest) ≡ Some back
   pub whole : ns ≡ front ++ back
 
 by_key : (k : Known) (i : ℕ) (ns : List ℕ) (y : Key) → words_at k (index_of i) ≡ Some (words_of y) → IsListOf k y ns → IsEnd k i ns ⊎ IsMore k i ns
-by_key k i ns (key.End us) w l = inl (record { short = subst (λ (xs : List ℕ). length xs ≤ 60) (sym l.1) l.0; words = w ∙ ap (λ (xs : List ℕ). Some (30 ∷ xs)) (sym l.1) })
+by_key k i ns (key.End us) w l = inl (record { short = subst (λ (xs : List ℕ). length xs ≤ 60) (sym l.1) l.0; words = w ∙ ap (λ (xs : List ℕ). Some (36 ∷ xs)) (sym l.1) })
 by_key k i ns (key.More us x) w l = inr (record { rest = x.0; front = us; back = list_at k x; words = w; full = l.1; some = l.2; behind = list_whole k x l.0; whole = l.3 })
 by_key k i ns y w l = absurd l
 
@@ -156,9 +114,6 @@ deep_key k i ns e =
     let w = key_words k (index_of i) h.0 h.1.is in
     by_key k i ns h.0 w.0 (subst (IsListOf k h.0) (sym p.1) (IsListOf-key k (index_of i) h.0 h.1 p.0))
 
-pub after_first : (q : ℕ) → (suc q == 0) ≡ false
-after_first q = ne_eqb (suc q) 0 (λ e. absurd (omega (arith, e)))
-
 -- words that are the same
 pub heads : (a b : ℕ) (us ws : List ℕ) (o : Option (List ℕ)) → o ≡ Some (a ∷ us) → o ≡ Some (b ∷ ws) → a ≡ b
 heads a b us ws o e f = cc
@@ -166,32 +121,20 @@ heads a b us ws o e f = cc
 pub tails : (a b : ℕ) (us ws : List ℕ) (o : Option (List ℕ)) → o ≡ Some (a ∷ us) → o ≡ Some (b ∷ ws) → us ≡ ws
 tails a b us ws o e f = cc
 
-number_fits : (k : Known) (w n : ℕ) → WordFits k role.Number w n
-number_fits k w n = record { needs = tt; less = omega arith }
-
 rest_fits : (k : Known) (w n : ℕ) → WordFits k role.Rest w n
 rest_fits k w n = record { needs = tt; less = omega arith }
 
-pick : (k : Known) (w n : ℕ) (b : Bool) (x y : Role) → WordFits k x w n → WordFits k y w n → WordFits k (if b then x else y) w n
-pick k w n true x y f g = f
-pick k w n false x y f g = g
-
-shallow_fits : (k : Known) (i kind : ℕ) (ws : List ℕ) (p : ℕ) → Needs k false i → words_at k (index_of i) ≡ Some (kind ∷ ws) → WordFits k (role_at kind false p) (slice_index ws p) (4 * work k false i)
-unfolding role_at
-shallow_fits k i kind ws p needs words =
+shallow_fits : (k : Known) (i kind : ℕ) (ws : List ℕ) (p : ℕ) → Needs k false i → words_at k (index_of i) ≡ Some (kind ∷ ws) → p < length ws → WordFits k (role_at kind false p) (slice_index ws p) (4 * work k false i)
+shallow_fits k i kind ws p needs words l =
     let s = some_of (denoted k (index_of i)) needs in
     let a = at_depth k i s.0 s.1 in
     let h = a.1 in
     let d : ℕ = a.0 in
     let all : words_of h.key ≡ kind ∷ ws = one_some (words_of h.key) (kind ∷ ws) (words_at k (index_of i)) h.words words in
-    let part = parts (reading d k) h.key s.0 h.reads p in
-    let part' : PartOf (reading d k) (get_or (roles_of kind) p role.Number) (slice_index ws p) = subst (λ (us : List ℕ). PartOf (reading d k) (get_or (roles_of (slice_index us 0)) p role.Number) (slice_index (drop 1 us) p)) all part in
-    let w : ℕ = slice_index ws p in
-    let n : ℕ = 4 * work k false i in
-    let b : 8 * d + 8 ≡ n = let e = part_work k i in let f = h.high in omega arith in
-    pick k w n (nat_lt kind 30) _ _
-    (pick k w n (nat_lt p 4) _ _ (subst (WordFits k (get_or (roles_of kind) p role.Number) w) b (part_fits k d (get_or (roles_of kind) p role.Number) w part')) (number_fits k w n))
-    (pick k w n (kind == 31) _ _ (pick k w n (p == 0) _ _ (rest_fits k w n) (number_fits k w n)) (number_fits k w n))
+    let part = parts_denote (reading d k) h.key s.0 h.reads p (subst (λ (us : List ℕ). p < length (drop 1 us)) (sym all) l) in
+    let part' : PartOf (reading d k) (role_at kind false p) (slice_index ws p) = subst (λ (us : List ℕ). PartOf (reading d k) (role_at (slice_index us 0) false p) (slice_index (drop 1 us) p)) all part in
+    let b : 8 * d + 8 ≡ 4 * work k false i = let e = part_work k i in let f = h.high in omega arith in
+    subst (WordFits k (role_at kind false p) (slice_index ws p)) b (part_fits k d (role_at kind false p) (slice_index ws p) part')
 
 listed_fits : (k : Known) (i : ℕ) (ns : List ℕ) (w : ℕ) → list_in (denoted k) (index_of i) ≡ Some ns → AllDenote k ns → In w ns → WordFits k role.Part w (4 * work k true i)
 listed_fits k i ns w e all j =
@@ -206,36 +149,36 @@ deep_fits k i kind ws p (ns, is, all) words l = ⊎_elim short long (deep_key k 
   where
     short : IsEnd k i ns → WordFits k (role_at kind true p) (slice_index ws p) (4 * work k true i)
     short e =
-        let a : 30 ≡ kind = heads 30 kind ns ws (words_at k (index_of i)) e.words words in
-        let b : ns ≡ ws = tails 30 kind ns ws (words_at k (index_of i)) e.words words in
+        let a : 36 ≡ kind = heads 36 kind ns ws (words_at k (index_of i)) e.words words in
+        let b : ns ≡ ws = tails 36 kind ns ws (words_at k (index_of i)) e.words words in
         subst (λ n. WordFits k (role_at n true p) (slice_index ws p) (4 * work k true i)) a
         (listed_fits k i ns (slice_index ws p) is all (subst (λ (us : List ℕ). In (slice_index us p) ns) b (In-at ns p (subst (λ (us : List ℕ). p < length us) (sym b) l))))
 
-    at_place : (q : ℕ) (e : IsMore k i ns) → q < length (e.rest ∷ e.front) → WordFits k (role_at 31 true q) (slice_index (e.rest ∷ e.front) q) (4 * work k true i)
+    at_place : (q : ℕ) (e : IsMore k i ns) → q < length (e.rest ∷ e.front) → WordFits k (role_at 37 true q) (slice_index (e.rest ∷ e.front) q) (4 * work k true i)
     at_place zero e l = rest_fits k e.rest (4 * work k true i)
     at_place (suc q) e l = subst (λ b. WordFits k (if b then role.Rest else role.Part) (slice_index e.front q) (4 * work k true i)) (sym (after_first q))
         (listed_fits k i ns (slice_index e.front q) is all (subst (In (slice_index e.front q)) (sym e.whole) (In-front (slice_index e.front q) e.front e.back (In-at e.front q (omega (arith, l))))))
 
     long : IsMore k i ns → WordFits k (role_at kind true p) (slice_index ws p) (4 * work k true i)
     long e =
-        let a : 31 ≡ kind = heads 31 kind (e.rest ∷ e.front) ws (words_at k (index_of i)) e.words words in
-        let b : e.rest ∷ e.front ≡ ws = tails 31 kind (e.rest ∷ e.front) ws (words_at k (index_of i)) e.words words in
+        let a : 37 ≡ kind = heads 37 kind (e.rest ∷ e.front) ws (words_at k (index_of i)) e.words words in
+        let b : e.rest ∷ e.front ≡ ws = tails 37 kind (e.rest ∷ e.front) ws (words_at k (index_of i)) e.words words in
         subst (λ n. WordFits k (role_at n true p) (slice_index ws p) (4 * work k true i)) a
-        (subst (λ (us : List ℕ). WordFits k (role_at 31 true p) (slice_index us p) (4 * work k true i)) b (at_place p e (subst (λ (us : List ℕ). p < length us) (sym b) l)))
+        (subst (λ (us : List ℕ). WordFits k (role_at 37 true p) (slice_index us p) (4 * work k true i)) b (at_place p e (subst (λ (us : List ℕ). p < length us) (sym b) l)))
 
 -- what the words of a key need
 pub row_fits : (k : Known) (b : Bool) (i kind : ℕ) (ws : List ℕ) (p : ℕ) → Needs k b i → words_at k (index_of i) ≡ Some (kind ∷ ws) → p < length ws → WordFits k (role_at kind b p) (slice_index ws p) (4 * work k b i)
-row_fits k false i kind ws p needs words l = shallow_fits k i kind ws p needs words
+row_fits k false i kind ws p needs words l = shallow_fits k i kind ws p needs words l
 row_fits k true i kind ws p needs words l = deep_fits k i kind ws p needs words l
 
 -- the rest of a list is less deep
-pub rest_less : (k : Known) (c x : ℕ) (us : List ℕ) → IsSome (denoted k (index_of c)) → words_at k (index_of c) ≡ Some (31 ∷ x ∷ us) → IsSome (denoted k (index_of x)) × (height k x < height k c)
+pub rest_less : (k : Known) (c x : ℕ) (us : List ℕ) → IsSome (denoted k (index_of c)) → words_at k (index_of c) ≡ Some (37 ∷ x ∷ us) → IsSome (denoted k (index_of x)) × (height k x < height k c)
 rest_less k c x us needs words =
     let s = some_of (denoted k (index_of c)) needs in
     let a = at_depth k c s.0 s.1 in
     let h = a.1 in
     let d : ℕ = a.0 in
-    let y : h.key ≡ key.More us (index_of x) = more_key h.key x us (one_some (words_of h.key) (31 ∷ x ∷ us) (words_at k (index_of c)) h.words words) in
+    let y : h.key ≡ key.More us (index_of x) = more_key h.key x us (one_some (words_of h.key) (37 ∷ x ∷ us) (words_at k (index_of c)) h.words words) in
     let t = then_tells (more_of us) (list_in (reading d k) (index_of x)) s.0 (subst (λ z. node_of (reading d k) z ≡ Some s.0) y h.reads) in
     let r = list_in_some (reading d k) (index_of x) t.0 t.1 in
     let l = height_least k x d r in
@@ -243,16 +186,16 @@ rest_less k c x us needs words =
     (some_lower _ _ (reaches d k (index_of x)) r, omega arith)
 
 -- the rest of a list needs what the list needs
-pub rest_needs : (k : Known) (b : Bool) (c x : ℕ) (us : List ℕ) → Needs k b c → words_at k (index_of c) ≡ Some (31 ∷ x ∷ us) → Needs k b x × (work k b x ≤ work k b c)
+pub rest_needs : (k : Known) (b : Bool) (c x : ℕ) (us : List ℕ) → Needs k b c → words_at k (index_of c) ≡ Some (37 ∷ x ∷ us) → Needs k b x × (work k b x ≤ work k b c)
 rest_needs k false c x us needs words = let r = rest_less k c x us needs words in let l = r.1 in let e = part_work k x in let f = part_work k c in (r.0, omega arith)
 rest_needs k true c x us (ns, is, all) words = ⊎_elim short long (deep_key k c ns is)
   where
     short : IsEnd k c ns → Needs k true x × (work k true x ≤ work k true c)
-    short e = absurd (omega (arith, heads 30 31 ns (x ∷ us) (words_at k (index_of c)) e.words words))
+    short e = absurd (omega (arith, heads 36 37 ns (x ∷ us) (words_at k (index_of c)) e.words words))
 
     long : IsMore k c ns → Needs k true x × (work k true x ≤ work k true c)
     long e =
-        let b : e.rest ∷ e.front ≡ x ∷ us = tails 31 31 (e.rest ∷ e.front) (x ∷ us) (words_at k (index_of c)) e.words words in
+        let b : e.rest ∷ e.front ≡ x ∷ us = tails 37 37 (e.rest ∷ e.front) (x ∷ us) (words_at k (index_of c)) e.words words in
         let r : e.rest ≡ x = ap (λ (ws : List ℕ). slice_index ws 0) b in
         let behind = subst (λ n. list_in (denoted k) (index_of n) ≡ Some e.back) r e.behind in
         let g = greatest_back (height k) e.front e.back in
@@ -268,12 +211,12 @@ chain_needs k b i (c ∷ cs) e h needs =
     let g = chain_needs k b h.1 cs e h.4 a.0 in
     (g.0, let y = subst (λ n. work k b h.1 ≤ work k b n) (sym h.0) a.1 in let z = g.1 in omega arith)
 
-pub chain_push : (k : Known) (i : ℕ) (cs : List ℕ) (c x : ℕ) (us : List ℕ) → IsChain k i cs c → words_at k (index_of c) ≡ Some (31 ∷ x ∷ us) → IsChain k i (cs ++ c ∷ []) x
+pub chain_push : (k : Known) (i : ℕ) (cs : List ℕ) (c x : ℕ) (us : List ℕ) → IsChain k i cs c → words_at k (index_of c) ≡ Some (37 ∷ x ∷ us) → IsChain k i (cs ++ c ∷ []) x
 chain_push k i [] c x us h w = (h, x, us, w, refl)
 chain_push k i (d ∷ cs) c x us h w = (h.0, h.1, h.2, h.3, chain_push k h.1 cs c x us h.4 w)
 
-pub chain_pop : (k : Known) (i : ℕ) (cs : List ℕ) (c e : ℕ) → IsChain k i (cs ++ c ∷ []) e → IsChain k i cs c × (us : List ℕ) × (words_at k (index_of c) ≡ Some (31 ∷ e ∷ us))
-chain_pop k i [] c e h = (h.0, h.2, subst (λ x. words_at k (index_of c) ≡ Some (31 ∷ x ∷ h.2)) h.4 h.3)
+pub chain_pop : (k : Known) (i : ℕ) (cs : List ℕ) (c e : ℕ) → IsChain k i (cs ++ c ∷ []) e → IsChain k i cs c × (us : List ℕ) × (words_at k (index_of c) ≡ Some (37 ∷ e ∷ us))
+chain_pop k i [] c e h = (h.0, h.2, subst (λ x. words_at k (index_of c) ≡ Some (37 ∷ x ∷ h.2)) h.4 h.3)
 chain_pop k i (d ∷ cs) c e h = let g = chain_pop k h.1 cs c e h.4 in ((h.0, h.1, h.2, h.3, g.0), g.1, g.2)
 
 -- what can be moved denotes something
@@ -285,7 +228,7 @@ needs_some k true i needs = list_in_some (denoted k) (index_of i) needs.0 needs.
 pub chain_reached : (k : Known) (live : List Index) (b : Bool) (i : ℕ) (cs : List ℕ) (e : ℕ) → IsChain k i cs e → Reached k live b i → Reached k live b e
 unfolding role_at
 chain_reached k live b i [] e h r = subst (Reached k live b) h r
-chain_reached k live b i (c ∷ cs) e h r = chain_reached k live b h.1 cs e h.4 (Word b c 31 (h.1 ∷ h.2) 0 b (subst (Reached k live b) h.0 r) h.3 (omega arith) refl)
+chain_reached k live b i (c ∷ cs) e h r = chain_reached k live b h.1 cs e h.4 (Word b c 37 (h.1 ∷ h.2) 0 b (subst (Reached k live b) h.0 r) h.3 (omega arith) refl)
 
 by_role : (k : Known) (live : List Index) (b : Bool) (i kind : ℕ) (ws : List ℕ) (p : ℕ) (r : Role) → role_at kind b p ≡ r → Reached k live b i → words_at k (index_of i) ≡ Some (kind ∷ ws) → p < length ws → WordReached k live r (slice_index ws p)
 by_role k live b i kind ws p role.Number e h w l = tt

@@ -11,15 +11,16 @@ use Rattle.type_form.specs.Means.{list_at}
 use Rattle.type_form.proofs.Depth.{denoted-is}
 use Rattle.type_form.proofs.MeansLemmas.{list_part, list_whole, HasKey-words, DenotesList-of}
 use Rattle.pool_shard.specs.Pairs.{known}
-use Rattle.pool_seat.specs.declared.roles.Role.{Role}
-use Rattle.pool_seat.specs.declared.roles.Role.TheVariants as role
+use Rattle.type_form.specs.declared.roles.Role.{Role}
+use Rattle.type_form.specs.declared.roles.Role.TheVariants as role
 use Rattle.pool_seat.specs.declared.mover.Mover.{Mover}
-use Rattle.pool_seat.specs.Roles.{roles_of, role_in_list, role_at}
+use Rattle.type_form.specs.Roles.{roles_of, role_in_list, role_at}
 use Rattle.pool_seat.specs.Moves.{IsSame, Pairs, IsMoved, AreMoved, IsListMoved, Becomes, WordMoves, IsNewKey}
 use Rattle.pool_seat.specs.Movers.{Needs, WordBecomes, RowMeans, Later, IsMover}
-use Rattle.pool_seat.proofs.Parts.{kind_of, rest_of, AllTurn, Turns, list_in_same, Made, moves}
+use Rattle.type_form.specs.Parts.{kind_of, rest_of, AllTurn, Turns, Made}
+use Rattle.type_form.proofs.PartLemmas.{after_first, rest_role, parts_turn}
 use Rattle.pool_seat.proofs.Depths.{at_depth, some_of, one_some}
-use Rattle.pool_seat.proofs.RowMoves.{roles_end, rest_role, after_first, IsEnd, IsMore, deep_key, heads, tails, needs_some, row_starts}
+use Rattle.pool_seat.proofs.RowMoves.{IsEnd, IsMore, deep_key, heads, tails, needs_some, row_starts}
 use Rattle.pool_seat.proofs.Moving.{Later-known, list_later, becomes_later}
 
 pub WordBecomes-later : (m n : Mover) (r : Role) (rest w v : ℕ) → Later m n → WordBecomes m r rest w v → WordBecomes n r rest w v
@@ -29,10 +30,10 @@ WordBecomes-later m n role.List rest w v a h = subst (λ k. IsListMoved k (known
 WordBecomes-later m n role.Rest rest w v a h = h
 
 -- what a list denotes
-pub end_list : (l : Known) (j : ℕ) (vs : List ℕ) → length vs ≤ 60 → words_at l (index_of j) ≡ Some (30 ∷ vs) → list_in (denoted l) (index_of j) ≡ Some vs
+pub end_list : (l : Known) (j : ℕ) (vs : List ℕ) → length vs ≤ 60 → words_at l (index_of j) ≡ Some (36 ∷ vs) → list_in (denoted l) (index_of j) ≡ Some vs
 end_list l j vs few w = let d = DenotesList-of l (index_of j) (key.End vs) vs (HasKey-words l (index_of j) (key.End vs) few w) (few, refl) in list_whole l (index_of j) d.known ∙ ap Some d.is
 
-pub more_list : (l : Known) (j rest : ℕ) (vs qs : List ℕ) → length vs ≡ 60 → 0 < length qs → list_in (denoted l) (index_of rest) ≡ Some qs → words_at l (index_of j) ≡ Some (31 ∷ rest ∷ vs) → list_in (denoted l) (index_of j) ≡ Some (vs ++ qs)
+pub more_list : (l : Known) (j rest : ℕ) (vs qs : List ℕ) → length vs ≡ 60 → 0 < length qs → list_in (denoted l) (index_of rest) ≡ Some qs → words_at l (index_of j) ≡ Some (37 ∷ rest ∷ vs) → list_in (denoted l) (index_of j) ≡ Some (vs ++ qs)
 more_list l j rest vs qs full some e w =
     let p = list_part l (index_of rest) qs e in
     let q : 0 < length (list_at l (index_of rest)) = subst (λ (xs : List ℕ). 0 < length xs) p.1 some in
@@ -51,29 +52,7 @@ module _ (k l : Known) (moved : Pairs) (same : (i j : ℕ) → IsMoved moved i j
   turns role.Number w v h = h
   turns role.Part w v h = let s = same w v h in (s.node, s.before, s.after)
   turns role.List w v h = (h.parts, h.new_parts, h.before, h.after, all_turn h.parts h.new_parts h.are)
-  turns role.Rest w v h = tt
-
-  -- the new key of a list of numbers
-  list_made : (y : Key) (n : Node) (vs : List ℕ) → 30 ≤ kind_of y → Fits y → node_of (denoted k) y ≡ Some n → length vs ≡ length (rest_of y)
-      → ((p : ℕ) → p < length (rest_of y) → WordMoves k l moved false (role_at (kind_of y) false p) (slice_index (rest_of y) p) (slice_index vs p)) → Made (denoted l) (kind_of y ∷ vs) n
-  unfolding role_at
-  list_made (key.End ns) n vs low fits e len h = (key.End ns, ap (λ (us : List ℕ). 30 ∷ us) (sym (ext_get_or 0 vs ns len (λ p q. h p (omega (arith, len, q))))), fits, e)
-  list_made (key.More ns i) n [] low fits e len h = absurd (omega (arith, len))
-  list_made (key.More ns i) n (v ∷ us) low fits e len h =
-      let s = same i.0 v (h 0 (omega arith)) in
-      let others : us ≡ ns = ext_get_or 0 us ns (omega (arith, len)) (λ p q. subst (λ b. WordMoves k l moved false (if b then role.Rest else role.Number) (slice_index ns p) (slice_index us p)) (after_first p) (h (suc p) (omega (arith, len, q)))) in (
-        key.More ns (index_of v),
-        ap (λ (b : List ℕ). 31 ∷ v ∷ b) (sym others),
-        fits,
-        ap (option_and_then (more_of ns)) (list_in_same (denoted k) (denoted l) i v (s.node, s.before, s.after)) ∙ e,
-      )
-  list_made y n vs low fits e len h = absurd (omega (arith, low))
-
-  role_is : (kind p : ℕ) → kind < 30 → role_at kind false p ≡ get_or (roles_of kind) p role.Number
-  unfolding role_at
-  role_is kind p q =
-      ap (λ b. if b then (if nat_lt p 4 then get_or (roles_of kind) p role.Number else role.Number) else role_in_list kind false p) (lt-ltb kind 30 q)
-      ∙ ⊎_elim (λ a. ap (λ b. if b then get_or (roles_of kind) p role.Number else role.Number) (lt-ltb p 4 a)) (λ g. ap (λ b. if b then get_or (roles_of kind) p role.Number else role.Number) (le-ltb p 4 g) ∙ sym (roles_end kind p g)) (cases_lt p 4)
+  turns role.Rest w v h = let s = same w v h in (s.node, s.before, s.after)
 
   -- the new row denotes the same
   row_same : (i j : ℕ) (new : List ℕ) → Needs k false i → IsNewKey k l moved false i new → words_at l (index_of j) ≡ Some new → IsSame k l i j
@@ -84,10 +63,8 @@ module _ (k l : Known) (moved : Pairs) (same : (i j : ℕ) → IsMoved moved i j
       let all : words_of z.key ≡ y.kind ∷ y.old_words = one_some (words_of z.key) (y.kind ∷ y.old_words) (words_at k (index_of i)) z.words y.before in
       let len : length y.new_words ≡ length (rest_of z.key) = subst (λ (us : List ℕ). length y.new_words ≡ length (drop 1 us)) (sym all) y.as_long in
       let h : (p : ℕ) → p < length (rest_of z.key) → WordMoves k l moved false (role_at (kind_of z.key) false p) (slice_index (rest_of z.key) p) (slice_index y.new_words p) = subst (λ (us : List ℕ). (p : ℕ) → p < length (drop 1 us) → WordMoves k l moved false (role_at (slice_index us 0) false p) (slice_index (drop 1 us) p) (slice_index y.new_words p)) (sym all) y.words in
-      let made : Made (denoted l) (kind_of z.key ∷ y.new_words) s.0 = ⊎_elim
-      (λ q. moves (denoted k) (denoted l) z.key s.0 y.new_words q z.fit z.denotes len (λ p u. turns (get_or (roles_of (kind_of z.key)) p role.Number) (slice_index (rest_of z.key) p) (slice_index y.new_words p) (subst (λ r. WordMoves k l moved false r (slice_index (rest_of z.key) p) (slice_index y.new_words p)) (role_is (kind_of z.key) p q) (h p (omega (arith, len, u))))))
-      (λ g. list_made z.key s.0 y.new_words g z.fit z.denotes len h)
-      (cases_lt (kind_of z.key) 30) in
+      let made : Made (denoted l) (kind_of z.key ∷ y.new_words) s.0 = parts_turn (denoted k) (denoted l) z.key s.0 y.new_words z.fit z.denotes len
+      (λ p u. turns (role_at (kind_of z.key) false p) (slice_index (rest_of z.key) p) (slice_index y.new_words p) (h p (omega (arith, len, u)))) in
       let first : kind_of z.key ≡ y.kind = ap (λ (us : List ℕ). slice_index us 0) all in
       let w : words_at l (index_of j) ≡ Some (words_of made.0) = place ∙ ap Some (y.after ∙ sym (made.1 ∙ ap (λ (n : ℕ). n ∷ y.new_words) first)) in
       let q = HasKey-words l (index_of j) made.0 made.2 w in
@@ -118,11 +95,11 @@ module _ (k l : Known) (moved : Pairs) (same : (i j : ℕ) → IsMoved moved i j
     where
       short : IsEnd k i ns → IsListMoved k l moved i j
       short e =
-          let a : y.kind ≡ 30 = heads y.kind 30 y.old_words ns (words_at k (index_of i)) y.before e.words in
-          let b : y.old_words ≡ ns = tails y.kind 30 y.old_words ns (words_at k (index_of i)) y.before e.words in
+          let a : y.kind ≡ 36 = heads y.kind 36 y.old_words ns (words_at k (index_of i)) y.before e.words in
+          let b : y.old_words ≡ ns = tails y.kind 36 y.old_words ns (words_at k (index_of i)) y.before e.words in
           let len : length y.new_words ≡ length ns = y.as_long ∙ ap length b in
           let s = e.short in
-          let h : (p : ℕ) → p < length ns → WordMoves k l moved true (role_at 30 true p) (slice_index ns p) (slice_index y.new_words p) = subst (λ n. (p : ℕ) → p < length ns → WordMoves k l moved true (role_at n true p) (slice_index ns p) (slice_index y.new_words p)) a
+          let h : (p : ℕ) → p < length ns → WordMoves k l moved true (role_at 36 true p) (slice_index ns p) (slice_index y.new_words p) = subst (λ n. (p : ℕ) → p < length ns → WordMoves k l moved true (role_at n true p) (slice_index ns p) (slice_index y.new_words p)) a
           (subst (λ (us : List ℕ). (p : ℕ) → p < length us → WordMoves k l moved true (role_at y.kind true p) (slice_index us p) (slice_index y.new_words p)) b y.words) in
           record {
             parts = ns;
@@ -132,7 +109,7 @@ module _ (k l : Known) (moved : Pairs) (same : (i j : ℕ) → IsMoved moved i j
             are = are_moved ns y.new_words len h;
           }
 
-      with_rest : (e : IsMore k i ns) (us : List ℕ) → length us ≡ length (e.rest ∷ e.front) → ((p : ℕ) → p < length (e.rest ∷ e.front) → WordMoves k l moved true (role_at 31 true p) (slice_index (e.rest ∷ e.front) p) (slice_index us p)) → words_at l (index_of j) ≡ Some (31 ∷ us) → IsListMoved k l moved i j
+      with_rest : (e : IsMore k i ns) (us : List ℕ) → length us ≡ length (e.rest ∷ e.front) → ((p : ℕ) → p < length (e.rest ∷ e.front) → WordMoves k l moved true (role_at 37 true p) (slice_index (e.rest ∷ e.front) p) (slice_index us p)) → words_at l (index_of j) ≡ Some (37 ∷ us) → IsListMoved k l moved i j
       with_rest e [] n g w = absurd (omega (arith, n))
       with_rest e (v ∷ us) n g w =
           let t : IsListMoved k l moved e.rest v = g 0 (omega arith) in
@@ -152,8 +129,8 @@ module _ (k l : Known) (moved : Pairs) (same : (i j : ℕ) → IsMoved moved i j
 
       long : IsMore k i ns → IsListMoved k l moved i j
       long e =
-          let a : y.kind ≡ 31 = heads y.kind 31 y.old_words (e.rest ∷ e.front) (words_at k (index_of i)) y.before e.words in
-          let b : y.old_words ≡ e.rest ∷ e.front = tails y.kind 31 y.old_words (e.rest ∷ e.front) (words_at k (index_of i)) y.before e.words in
+          let a : y.kind ≡ 37 = heads y.kind 37 y.old_words (e.rest ∷ e.front) (words_at k (index_of i)) y.before e.words in
+          let b : y.old_words ≡ e.rest ∷ e.front = tails y.kind 37 y.old_words (e.rest ∷ e.front) (words_at k (index_of i)) y.before e.words in
           with_rest e y.new_words (y.as_long ∙ ap length b)
           (subst (λ n. (p : ℕ) → p < length (e.rest ∷ e.front) → WordMoves k l moved true (role_at n true p) (slice_index (e.rest ∷ e.front) p) (slice_index y.new_words p)) a (subst (λ (us : List ℕ). (p : ℕ) → p < length us → WordMoves k l moved true (role_at y.kind true p) (slice_index us p) (slice_index y.new_words p)) b y.words))
           (place ∙ ap Some (y.after ∙ ap (λ (n : ℕ). n ∷ y.new_words) a))
@@ -191,7 +168,7 @@ word_moves m b role.List rest w v g h = h
 word_moves m b role.Rest rest w v g h = subst (Becomes (known m.from) (known m.to) m.moved.items b w) (sym h) (g refl)
 
 -- the new key, where each word became what it is to
-pub key_done : (m n : Mover) (b : Bool) (i rest : ℕ) (words into : List ℕ) → Later m n → Needs (known m.from) b i → words_at (known m.from) (index_of i) ≡ Some words → ((x : ℕ) (us : List ℕ) → words_at (known m.from) (index_of i) ≡ Some (31 ∷ x ∷ us) → Becomes (known m.from) (known m.to) m.moved.items b x rest) → length into ≡ length words → slice_index into 0 ≡ slice_index words 0
+pub key_done : (m n : Mover) (b : Bool) (i rest : ℕ) (words into : List ℕ) → Later m n → Needs (known m.from) b i → words_at (known m.from) (index_of i) ≡ Some words → ((x : ℕ) (us : List ℕ) → words_at (known m.from) (index_of i) ≡ Some (37 ∷ x ∷ us) → Becomes (known m.from) (known m.to) m.moved.items b x rest) → length into ≡ length words → slice_index into 0 ≡ slice_index words 0
     → ((q : ℕ) → 0 < q → q < length words → WordBecomes n (role_at (slice_index words 0) b (q - 1)) rest (slice_index words q) (slice_index into q)) → IsNewKey (known n.from) (known n.to) n.moved.items b i into
 key_done m n b i rest words into later needs w behind long first built =
     let k = Later-known m n later in
@@ -224,6 +201,6 @@ key_done m n b i rest words into later needs w behind long first built =
         let a : words ≡ slice_index words 0 ∷ ws = row_starts (known m.from) i words (needs_some (known m.from) b i needs) w in
         let z : p ≡ 0 = q.1 in
         let c : ws ≡ slice_index ws 0 ∷ drop 1 ws = starts ws (omega (arith, l, z)) in
-        let d : words ≡ 31 ∷ slice_index ws 0 ∷ drop 1 ws = a ∙ ap₂ (λ (x : ℕ) (xs : List ℕ). x ∷ xs) q.0 c in
+        let d : words ≡ 37 ∷ slice_index ws 0 ∷ drop 1 ws = a ∙ ap₂ (λ (x : ℕ) (xs : List ℕ). x ∷ xs) q.0 c in
         subst (λ x. Becomes (known n.from) (known n.to) n.moved.items b (slice_index ws x) rest) (sym z)
         (subst (λ x. Becomes x (known n.to) n.moved.items b (slice_index ws 0) rest) (sym (Later-known m n later)) (becomes_later (known m.from) (known m.to) (known n.to) m.moved.items n.moved.items b (slice_index ws 0) rest later.keeps later.moved (behind (slice_index ws 0) (drop 1 ws) (w ∙ ap Some d))))

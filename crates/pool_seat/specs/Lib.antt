@@ -3,5 +3,4 @@ pub mod Moves
 pub mod Order
 pub mod Reach
 pub mod Rehoming
-pub mod Roles
 pub mod Seats

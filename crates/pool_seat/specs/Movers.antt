@@ -9,8 +9,8 @@ use Rattle.pool_shard.specs.Pairs.{known}
 use Rattle.pool_seat.specs.Reach.{Reached}
 use Rattle.pool_seat.specs.Moves.{IsSame, Pairs, IsMoved, IsListMoved, IsNewKey, HasMoved, IsFull, SameRows}
 use Rattle.pool_seat.specs.Order.{own, Listed, AllListed, adding, olds}
-use Rattle.pool_seat.specs.declared.roles.Role.{Role}
-use Rattle.pool_seat.specs.declared.roles.Role.TheVariants as role
+use Rattle.type_form.specs.declared.roles.Role.{Role}
+use Rattle.type_form.specs.declared.roles.Role.TheVariants as role
 use Rattle.pool_seat.specs.declared.mover.Mover.{Mover}
 use Rattle.pool_seat.specs.declared.mover.Stop.{Stop}
 use Rattle.pool_seat.specs.declared.mover.Stop.TheVariants.{Full, OutOfMemory}
@@ -67,7 +67,7 @@ word_work k role.Rest w = 0
 -- from an index on, these are the parts of a list that have a rest, and the last rest is at another index
 abbrev pub IsChain : Known → ℕ → List ℕ → ℕ → Type 0
 IsChain k i [] e = i ≡ e
-IsChain k i (c ∷ cs) e = (i ≡ c) × (x : ℕ) × (ns : List ℕ) × (words_at k (index_of c) ≡ Some (31 ∷ x ∷ ns)) × IsChain k x cs e
+IsChain k i (c ∷ cs) e = (i ≡ c) × (x : ℕ) × (ns : List ℕ) × (words_at k (index_of c) ≡ Some (37 ∷ x ∷ ns)) × IsChain k x cs e
 
 -- what became of a word of a key whose rest, if it has one, became this
 abbrev pub WordBecomes : Mover → Role → ℕ → ℕ → ℕ → Type 0

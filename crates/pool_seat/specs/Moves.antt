@@ -8,10 +8,10 @@ use Rattle.type_form.specs.Denote.{Node, denoted, list_in}
 use Rattle.pool_words.specs.Layout.{Row, shard_of, IsLayout}
 use Rattle.pool_words.specs.Rule.{In}
 use Rattle.pool_shard.specs.Pairs.{Rows, known, HasNot, IsAtNumbers}
-use Rattle.pool_seat.specs.Roles.{role_at}
+use Rattle.type_form.specs.Roles.{role_at}
 use Rattle.pool_seat.specs.Reach.{Reached}
-use Rattle.pool_seat.specs.declared.roles.Role.{Role}
-use Rattle.pool_seat.specs.declared.roles.Role.TheVariants as role
+use Rattle.type_form.specs.declared.roles.Role.{Role}
+use Rattle.type_form.specs.declared.roles.Role.TheVariants as role
 
 -- an index that denotes something in one list of pairs, and an index that denotes the same in another
 pub record IsSame (k l : Known) (i j : ℕ) : Type 0 where

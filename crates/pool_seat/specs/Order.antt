@@ -3,9 +3,9 @@ use Rattle.std.specs.Prelude.{◌≡◌, ℕ, zero, suc, ◌<◌, ◌==◌, ◌|
 use Rattle.type_form.specs.declared.index.Index.{Index}
 use Rattle.type_form.specs.Known.{Known, words_at}
 use Rattle.type_form.specs.Words.{index_of}
-use Rattle.pool_seat.specs.declared.roles.Role.TheVariants as role
-use Rattle.pool_seat.specs.Roles.{role_at}
-use Rattle.pool_seat.specs.Reach.{IsIndex}
+use Rattle.type_form.specs.declared.roles.Role.TheVariants as role
+use Rattle.type_form.specs.Roles.{role_at}
+use Rattle.type_form.specs.Reach.{IsIndex}
 use Rattle.pool_seat.specs.Moves.{Pairs}
 
 -- the lists that stand at the places below n, one behind the other

@@ -15,13 +15,13 @@ fn optional_set(rows: &mut PoolRows) -> Option<(Index, Index)>
     ensures layout { rows.new.view.layout ≡ rows.old.view.layout }
     ensures denote { IfSome result (λ t. IsSome (denoted (known rows.new) t.0) × IsSome (denoted (known rows.new) t.1)) }
 {
-    let Ok(_unused) = rows.intern(&[30, 98]) else {
+    let Ok(_unused) = rows.intern(&[36, 98]) else {
         return None;
     };
-    let Ok(name) = rows.intern(&[30, 97]) else {
+    let Ok(name) = rows.intern(&[36, 97]) else {
         return None;
     };
-    let Ok(names) = rows.intern(&[30, name.0]) else {
+    let Ok(names) = rows.intern(&[36, name.0]) else {
         return None;
     };
     let Ok(set) = rows.intern(&[3, names.0]) else {
@@ -60,13 +60,13 @@ fn moves_what_is_reached(rt: HostRuntime) -> Result<(), Fail> {
         assert_eq!(rt; moved[n].0.0, wanted[n].0);
         assert_eq!(rt; moved[n].1.0, wanted[n].1);
     }
-    assert!(rt; has(&mut rows, 961, &[30, 97]));
+    assert!(rt; has(&mut rows, 961, &[36, 97]));
     // The names of the set, and the same list as numbers.
-    assert!(rt; has(&mut rows, 964, &[30, 961]));
+    assert!(rt; has(&mut rows, 964, &[36, 961]));
     assert!(rt; has(&mut rows, 967, &[3, 964]));
     assert!(rt; has(&mut rows, 970, &[8, 967]));
-    assert!(rt; has(&mut rows, 973, &[30, 196]));
-    assert_eq!(rt; rows.find(&[30, 98]), None);
+    assert!(rt; has(&mut rows, 973, &[36, 196]));
+    assert_eq!(rt; rows.find(&[36, 98]), None);
     Ok(())
 }
 
@@ -75,11 +75,11 @@ fn long_list(rows: &mut PoolRows) -> Option<Index>
     ensures layout { rows.new.view.layout ≡ rows.old.view.layout }
     ensures denote { IfSome result (λ i. IsSome (denoted (known rows.new) i)) }
 {
-    let Ok(last) = rows.intern(&[30, 1, 2]) else {
+    let Ok(last) = rows.intern(&[36, 1, 2]) else {
         return None;
     };
     let mut key = [7u64; 62];
-    key[0] = 31;
+    key[0] = 37;
     key[1] = last.0;
     match rows.intern(&key) {
         Ok(list) => Some(list),
@@ -104,10 +104,10 @@ fn moves_a_list_from_its_end(rt: HostRuntime) -> Result<(), Fail> {
     assert_eq!(rt; moved[1].0.0, 197);
     assert_eq!(rt; moved[1].1.0, 965);
     let mut key = [7u64; 62];
-    key[0] = 31;
+    key[0] = 37;
     key[1] = 961;
     assert!(rt; has(&mut rows, 965, &key));
-    assert!(rt; has(&mut rows, 961, &[30, 1, 2]));
+    assert!(rt; has(&mut rows, 961, &[36, 1, 2]));
     Ok(())
 }
 
@@ -118,7 +118,7 @@ fn lists(alloc: Global, rows: &mut PoolRows, count: u64) -> Option<Vec<Index>>
 {
     let mut all = Vec::new(alloc);
     for n in 0..count {
-        let Ok(i) = rows.intern(&[30, n]) else {
+        let Ok(i) = rows.intern(&[36, n]) else {
             return None;
         };
         let Ok(()) = all.push(i) else {
@@ -139,7 +139,7 @@ fn rows_that_do_not_fit_come_back(rt: HostRuntime) -> Result<(), Fail> {
             assert_eq!(rt; shard, 0);
             assert_eq!(rt; live.len(), 300);
             for (n, i) in live.iter().enumerate() {
-                assert_eq!(rt; old.find(&[30, n as u64]), Some(*i));
+                assert_eq!(rt; old.find(&[36, n as u64]), Some(*i));
             }
             Ok(())
         }

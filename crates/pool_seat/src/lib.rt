@@ -15,7 +15,6 @@ mod homes;
 mod laws;
 mod mover;
 mod note;
-mod roles;
 mod seat;
 mod sole;
 #[cfg(test)]

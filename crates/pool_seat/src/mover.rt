@@ -11,10 +11,9 @@ ghost use Rattle.pool_seat.specs.Order.{added, olds};
 ghost use Rattle.pool_seat.specs.Movers.{Needs, WordNeeds, WordReached, WordBecomes, HasRow, IsChain, Later, HasTree, HasParts, AddsTree, AddsParts, WordAdds, AddsAll, IsMover, IsStop};
 ghost use Rattle.pool_seat.specs.declared.mover.Stop.TheVariants.{OutOfMemory};
 
-use crate::roles::{Role, role_of};
 use pool_shard::PoolRows;
 use std::alloc::Global;
-use type_form::{Index, KeyBuf};
+use type_form::{Index, KeyBuf, Role, role_of};
 
 /// Why no more rows are moved.
 #[derive(Clone, Copy)]
@@ -113,7 +112,7 @@ impl<'a> Mover<'a> {
         ensures later { Later self.old self.new }
         ensures same { self.new.moved.items ≡ self.old.moved.items }
         ensures chain { IfOk result (IsChain (known self.old.from) i chunks.new.items) }
-        ensures last { IfOk result (λ e. (x : ℕ) (ns : List ℕ) → words_at (known self.old.from) (index_of e) ≡ Some (31 ∷ x ∷ ns) → ⊥) }
+        ensures last { IfOk result (λ e. (x : ℕ) (ns : List ℕ) → words_at (known self.old.from) (index_of e) ≡ Some (37 ∷ x ∷ ns) → ⊥) }
         ensures stop { IfErr result (IsStop self.new) }
     {
         let mut at = i;
@@ -121,7 +120,7 @@ impl<'a> Mover<'a> {
             let mut words = KeyBuf::new();
             self.read(at, &mut words);
             let words = words.as_slice();
-            if words[0] != 31 {
+            if words[0] != 37 {
                 return Ok(at);
             }
             let Ok(()) = chunks.push(at) else {
@@ -176,8 +175,8 @@ impl<'a> Mover<'a> {
         requires mover { IsMover self.old }
         requires needs { Needs (known self.old.from) of_parts i }
         requires reached { Reached (known self.old.from) self.old.live.now of_parts i }
-        requires rest { (x : ℕ) (ns : List ℕ) → words_at (known self.old.from) (index_of i) ≡ Some (31 ∷ x ∷ ns) → Becomes (known self.old.from) (known self.old.to) self.old.moved.items of_parts x rest }
-        requires tree { (x : ℕ) (ns : List ℕ) → words_at (known self.old.from) (index_of i) ≡ Some (31 ∷ x ∷ ns) → HasTree (known self.old.from) self.old.moved.items of_parts x }
+        requires rest { (x : ℕ) (ns : List ℕ) → words_at (known self.old.from) (index_of i) ≡ Some (37 ∷ x ∷ ns) → Becomes (known self.old.from) (known self.old.to) self.old.moved.items of_parts x rest }
+        requires tree { (x : ℕ) (ns : List ℕ) → words_at (known self.old.from) (index_of i) ≡ Some (37 ∷ x ∷ ns) → HasTree (known self.old.from) self.old.moved.items of_parts x }
         ensures mover { IsMover self.new }
         ensures later { Later self.old self.new }
         ensures moved { IfOk result (Becomes (known self.new.from) (known self.new.to) self.new.moved.items of_parts i) }
@@ -194,8 +193,8 @@ impl<'a> Mover<'a> {
         requires mover { IsMover self.old }
         requires needs { Needs (known self.old.from) of_parts i }
         requires reached { Reached (known self.old.from) self.old.live.now of_parts i }
-        requires rest { (x : ℕ) (ns : List ℕ) → words_at (known self.old.from) (index_of i) ≡ Some (31 ∷ x ∷ ns) → Becomes (known self.old.from) (known self.old.to) self.old.moved.items of_parts x rest }
-        requires tree { (x : ℕ) (ns : List ℕ) → words_at (known self.old.from) (index_of i) ≡ Some (31 ∷ x ∷ ns) → HasTree (known self.old.from) self.old.moved.items of_parts x }
+        requires rest { (x : ℕ) (ns : List ℕ) → words_at (known self.old.from) (index_of i) ≡ Some (37 ∷ x ∷ ns) → Becomes (known self.old.from) (known self.old.to) self.old.moved.items of_parts x rest }
+        requires tree { (x : ℕ) (ns : List ℕ) → words_at (known self.old.from) (index_of i) ≡ Some (37 ∷ x ∷ ns) → HasTree (known self.old.from) self.old.moved.items of_parts x }
         ensures mover { IsMover self.new }
         ensures later { Later self.old self.new }
         ensures moved { IfOk result (HasRow self.new of_parts i) }

@@ -5,6 +5,7 @@ pub mod LengthLemmas
 pub mod ListsLemmas
 pub mod MeansLemmas
 pub mod Options
+pub mod PartLemmas
 pub mod PoolLemmas
 pub mod SpellLemmas
 pub mod TextLemmas

@@ -12,13 +12,13 @@ use Rattle.type_form.specs.declared.tree.DeclPath.TheVariants as decl
 use Rattle.type_form.specs.declared.tree.Arg.TheVariants as arg
 use Rattle.type_form.specs.Known.{Known, Keeps}
 use Rattle.type_form.specs.Words.{index_of}
-use Rattle.type_form.specs.Denote.{Node, OfTy, OfValue, OfDecl, OfInstance, OfList, Reading, option_map2, option_map3, node_of, reading, denoted, end_of, more_of, as_ty, as_value, as_decl, as_instance, as_list, as_arg, each, each_in, arg_in, ty_in, value_in, decl_in, instance_in, list_in, lists_in, tys_in, values_in, args_in}
-use Rattle.type_form.specs.Means.{IsTy, ty_at, IsValue, value_at, IsDecl, decl_at, IsInstance, instance_at, IsList, list_at, AreLists, lists_at, AreTys, tys_at, AreValues, values_at, AreArgs, args_at, DenotesTy, DenotesValue, DenotesDecl, DenotesInstance, DenotesList, DenotesLists, DenotesTys, DenotesValues, DenotesArgs, HasKey, KeepsAll, Stays, Grows, IsTyOf, IsValueOf, IsDeclOf, IsInstanceOf, IsListOf}
-use Rattle.type_form.specs.Means.{ListLists, ListTys, ListValues, ListArgs}
+use Rattle.type_form.specs.Denote.{Node, OfTy, OfValue, OfDecl, OfArg, OfInstance, OfList, Reading, option_map2, option_map3, node_of, reading, denoted, end_of, more_of, as_ty, as_value, as_decl, as_instance, as_list, as_arg, is_byte, bytes_of, each, each_in, arg_in, ty_in, value_in, decl_in, instance_in, list_in, bytes_in, names_in, tys_in, values_in, args_in}
+use Rattle.type_form.specs.Means.{IsTy, ty_at, IsValue, value_at, IsDecl, decl_at, IsArg, arg_at, IsInstance, instance_at, IsList, list_at, IsBytes, bytes_at, AreNames, names_at, AreTys, tys_at, AreValues, values_at, AreArgs, args_at, DenotesTy, DenotesValue, DenotesDecl, DenotesArg, DenotesInstance, DenotesList, DenotesBytes, DenotesNames, DenotesTys, DenotesValues, DenotesArgs, HasKey, KeepsAll, Stays, Grows, IsTyOf, IsValueOf, IsDeclOf, IsArgOf, IsInstanceOf, IsListOf}
+use Rattle.type_form.specs.Means.{ListNames, ListTys, ListValues, ListArgs}
 use Rattle.type_form.proofs.Options.{two_tells, then_tells, each_lower}
-use Rattle.type_form.proofs.KeyKinds.{ty_in-lower, value_in-lower, list_in-lower, arg_in-lower}
+use Rattle.type_form.proofs.KeyKinds.{ty_in-lower, value_in-lower, list_in-lower, bytes_in-lower, arg_in-lower}
 use Rattle.type_form.proofs.Depth.{denoted-grows}
-use Rattle.type_form.proofs.MeansLemmas.{ty_part, ty_whole, value_part, value_whole, list_part, list_whole, tys_part, tys_whole, values_part, values_whole, lists_part, lists_whole, args_part, args_whole, ty_node, value_node}
+use Rattle.type_form.proofs.MeansLemmas.{ty_part, ty_whole, value_part, value_whole, list_part, list_whole, tys_part, tys_whole, values_part, values_whole, names_part, names_whole, args_part, args_whole, arg_part, arg_whole, bytes_part, bytes_whole}
 
 each_push : {A : Type 0} (f : Index → Option A) (ns : List ℕ) (n : ℕ) (xs : List A) (x : A) → each f ns ≡ Some xs → f (index_of n) ≡ Some x → each f (ns ++ n ∷ []) ≡ Some (xs ++ x ∷ [])
 each_push f [] n [] x e h = ap (λ o. option_map2 (λ y ys. y ∷ ys) o (Some [])) h
@@ -53,39 +53,39 @@ in_list_tells : {A : Type 0} (f : Index → Option A) (r : Reading) (l : Index) 
 unfolding each_in
 in_list_tells f r l xs e = then_tells (each f) (list_in r l) xs e
 
-pub ListLists-nil : (k : Known) → ListLists k [] []
-ListLists-nil k = record { is = refl }
+pub ListNames-nil : (k : Known) → ListNames k [] []
+ListNames-nil k = record { is = refl }
 
-pub ListLists-grows : (k l : Known) (ns : List ℕ) (xs : List (List ℕ)) → Grows k l → ListLists k ns xs → ListLists l ns xs
-ListLists-grows k l ns xs g h = record { is = each_lower _ _ (list_in-lower (denoted k) (denoted l) (denoted-grows k l g.kept.keeps)) ns xs h.is }
+pub ListNames-grows : (k l : Known) (ns : List ℕ) (xs : List (List ℕ)) → Grows k l → ListNames k ns xs → ListNames l ns xs
+ListNames-grows k l ns xs g h = record { is = each_lower _ _ (bytes_in-lower (denoted k) (denoted l) (denoted-grows k l g.kept.keeps)) ns xs h.is }
 
-pub ListLists-length : (k : Known) (ns : List ℕ) (xs : List (List ℕ)) → ListLists k ns xs → length ns ≡ length xs
-ListLists-length k ns xs h = each_length (list_in (denoted k)) ns xs h.is
+pub ListNames-length : (k : Known) (ns : List ℕ) (xs : List (List ℕ)) → ListNames k ns xs → length ns ≡ length xs
+ListNames-length k ns xs h = each_length (bytes_in (denoted k)) ns xs h.is
 
 -- a list whose numbers are such indices
-pub DenotesLists-list : (k : Known) (l : Index) (ns : List ℕ) (xs : List (List ℕ)) → DenotesList k l ns → ListLists k ns xs → DenotesLists k l xs
-unfolding lists_in
-DenotesLists-list k l ns xs d h = let p = lists_part k l xs (in_list (list_in (denoted k)) (denoted k) l ns xs (list_whole k l d.known ∙ ap Some d.is) h.is) in record { known = p.0; is = sym p.1 }
+pub DenotesNames-list : (k : Known) (l : Index) (ns : List ℕ) (xs : List (List ℕ)) → DenotesList k l ns → ListNames k ns xs → DenotesNames k l xs
+unfolding names_in
+DenotesNames-list k l ns xs d h = let p = names_part k l xs (in_list (bytes_in (denoted k)) (denoted k) l ns xs (list_whole k l d.known ∙ ap Some d.is) h.is) in record { known = p.0; is = sym p.1 }
 
-tells_lists : (k : Known) (l : Index) → AreLists k l → (ns : List ℕ) × (list_in (denoted k) l ≡ Some ns) × (each (list_in (denoted k)) ns ≡ Some (lists_at k l))
-unfolding lists_in
-tells_lists k l h = in_list_tells (list_in (denoted k)) (denoted k) l (lists_at k l) (lists_whole k l h)
+tells_names : (k : Known) (l : Index) → AreNames k l → (ns : List ℕ) × (list_in (denoted k) l ≡ Some ns) × (each (bytes_in (denoted k)) ns ≡ Some (names_at k l))
+unfolding names_in
+tells_names k l h = in_list_tells (bytes_in (denoted k)) (denoted k) l (names_at k l) (names_whole k l h)
 
-pub AreLists-list : (k : Known) (l : Index) → AreLists k l → IsList k l
-AreLists-list k l h = let t = tells_lists k l h in (list_part k l t.0 t.1).0
+pub AreNames-list : (k : Known) (l : Index) → AreNames k l → IsList k l
+AreNames-list k l h = let t = tells_names k l h in (list_part k l t.0 t.1).0
 
-pub AreLists-ListLists : (k : Known) (l : Index) → AreLists k l → ListLists k (list_at k l) (lists_at k l)
-AreLists-ListLists k l h = let t = tells_lists k l h in record { is = subst (λ ns. each (list_in (denoted k)) ns ≡ Some (lists_at k l)) (list_part k l t.0 t.1).1 t.2 }
+pub AreNames-ListNames : (k : Known) (l : Index) → AreNames k l → ListNames k (list_at k l) (names_at k l)
+AreNames-ListNames k l h = let t = tells_names k l h in record { is = subst (λ ns. each (bytes_in (denoted k)) ns ≡ Some (names_at k l)) (list_part k l t.0 t.1).1 t.2 }
 
-pub list-AreLists : (k : Known) (l : Index) (xs : List (List ℕ)) → IsList k l → ListLists k (list_at k l) xs → DenotesLists k l xs
-list-AreLists k l xs i h = DenotesLists-list k l (list_at k l) xs (record { known = i; is = refl }) h
+pub list-AreNames : (k : Known) (l : Index) (xs : List (List ℕ)) → IsList k l → ListNames k (list_at k l) xs → DenotesNames k l xs
+list-AreNames k l xs i h = DenotesNames-list k l (list_at k l) xs (record { known = i; is = refl }) h
 
-pub ListLists-push : (k : Known) (ns : List ℕ) (xs : List (List ℕ)) (i : Index) (x : List ℕ) → ListLists k ns xs → DenotesList k i x → ListLists k (ns ++ i.0 ∷ []) (xs ++ x ∷ [])
-ListLists-push k ns xs i x h d = record { is = each_push (list_in (denoted k)) ns i.0 xs x h.is (list_whole k i d.known ∙ ap Some d.is) }
+pub ListNames-push : (k : Known) (ns : List ℕ) (xs : List (List ℕ)) (i : Index) (x : List ℕ) → ListNames k ns xs → DenotesBytes k i x → ListNames k (ns ++ i.0 ∷ []) (xs ++ x ∷ [])
+ListNames-push k ns xs i x h d = record { is = each_push (bytes_in (denoted k)) ns i.0 xs x h.is (bytes_whole k i d.known ∙ ap Some d.is) }
 
 -- what stands at a place
-pub ListLists-at : (k : Known) (ns : List ℕ) (xs : List (List ℕ)) → ListLists k ns xs → (j : ℕ) → j < length ns → (d : List ℕ) → DenotesList k (index_of (get_or ns j 0)) (get_or xs j d)
-ListLists-at k ns xs h j lt d = let p = list_part k (index_of (get_or ns j 0)) (get_or xs j d) (each_at (list_in (denoted k)) ns xs h.is j lt d) in record { known = p.0; is = sym p.1 }
+pub ListNames-at : (k : Known) (ns : List ℕ) (xs : List (List ℕ)) → ListNames k ns xs → (j : ℕ) → j < length ns → (d : List ℕ) → DenotesBytes k (index_of (get_or ns j 0)) (get_or xs j d)
+ListNames-at k ns xs h j lt d = let p = bytes_part k (index_of (get_or ns j 0)) (get_or xs j d) (each_at (bytes_in (denoted k)) ns xs h.is j lt d) in record { known = p.0; is = sym p.1 }
 
 pub ListTys-nil : (k : Known) → ListTys k [] []
 ListTys-nil k = record { is = refl }
@@ -182,17 +182,9 @@ AreArgs-ListArgs k l h = let t = tells_args k l h in record { is = subst (λ ns.
 pub list-AreArgs : (k : Known) (l : Index) (xs : List (Arg)) → IsList k l → ListArgs k (list_at k l) xs → DenotesArgs k l xs
 list-AreArgs k l xs i h = DenotesArgs-list k l (list_at k l) xs (record { known = i; is = refl }) h
 
-arg_of_value : (r : Reading) (i : Index) (v : Value) → r i ≡ Some (OfValue v) → arg_in r i ≡ Some (arg.Known v)
-unfolding arg_in
-arg_of_value r i v e = ap (option_and_then as_arg) e
+pub ListArgs-push : (k : Known) (ns : List ℕ) (xs : List (Arg)) (i : Index) (x : Arg) → ListArgs k ns xs → DenotesArg k i x → ListArgs k (ns ++ i.0 ∷ []) (xs ++ x ∷ [])
+ListArgs-push k ns xs i x h d = record { is = each_push (arg_in (denoted k)) ns i.0 xs x h.is (arg_whole k i d.known ∙ ap Some d.is) }
 
-arg_of_ty : (r : Reading) (i : Index) (t : Ty) → r i ≡ Some (OfTy t) → arg_in r i ≡ Some (arg.Typed t)
-unfolding arg_in
-arg_of_ty r i t e = ap (option_and_then as_arg) e
-
--- an argument that is a value, and one that is a type alone
-pub ListArgs-push_value : (k : Known) (ns : List ℕ) (xs : List Arg) (i : Index) (v : Value) → ListArgs k ns xs → DenotesValue k i v → ListArgs k (ns ++ i.0 ∷ []) (xs ++ arg.Known v ∷ [])
-ListArgs-push_value k ns xs i v h d = record { is = each_push (arg_in (denoted k)) ns i.0 xs (arg.Known v) h.is (arg_of_value (denoted k) i v (value_node (denoted k) i v (value_whole k i d.known ∙ ap Some d.is))) }
-
-pub ListArgs-push_ty : (k : Known) (ns : List ℕ) (xs : List Arg) (i : Index) (t : Ty) → ListArgs k ns xs → DenotesTy k i t → ListArgs k (ns ++ i.0 ∷ []) (xs ++ arg.Typed t ∷ [])
-ListArgs-push_ty k ns xs i t h d = record { is = each_push (arg_in (denoted k)) ns i.0 xs (arg.Typed t) h.is (arg_of_ty (denoted k) i t (ty_node (denoted k) i t (ty_whole k i d.known ∙ ap Some d.is))) }
+-- what stands at a place
+pub ListArgs-at : (k : Known) (ns : List ℕ) (xs : List (Arg)) → ListArgs k ns xs → (j : ℕ) → j < length ns → (d : Arg) → DenotesArg k (index_of (get_or ns j 0)) (get_or xs j d)
+ListArgs-at k ns xs h j lt d = let p = arg_part k (index_of (get_or ns j 0)) (get_or xs j d) (each_at (arg_in (denoted k)) ns xs h.is j lt d) in record { known = p.0; is = sym p.1 }

@@ -183,6 +183,21 @@ mark_text-FunctionType ps r = ap (λ x. (ty_spelled x).mark) (sym (ty.rolls-Func
 pub place_is-FunctionType : (ps : List Ty) (r : Ty) → place_text (ty.Function ps r) ≡ ty_text (ty.Function ps r)
 place_is-FunctionType ps r = place_text-FunctionType ps r ∙ sym (ty_text-FunctionType ps r)
 
+pub ty_text-UnionTagType : (t : Ty) → ty_text (ty.UnionTag t) ≡ codes "@tag(" ++ (ty_text t ++ codes ")")
+unfolding ty_text decl_text arg_text
+ty_text-UnionTagType t = ap (λ x. (ty_spelled x).text) (sym (ty.rolls-UnionTag t)) ∙ ap (λ s. s.text) (fold-roll-Ty (List ℕ) (List ℕ) TyText ValueText arg_layer decl_layer ty_layer value_layer (layer.UnionTag t))
+
+pub place_text-UnionTagType : (t : Ty) → place_text (ty.UnionTag t) ≡ codes "@tag(" ++ (ty_text t ++ codes ")")
+unfolding place_text ty_text decl_text arg_text
+place_text-UnionTagType t = ap (λ x. (ty_spelled x).place) (sym (ty.rolls-UnionTag t)) ∙ ap (λ s. s.place) (fold-roll-Ty (List ℕ) (List ℕ) TyText ValueText arg_layer decl_layer ty_layer value_layer (layer.UnionTag t))
+
+pub mark_text-UnionTagType : (t : Ty) → mark_text (ty.UnionTag t) ≡ codes "."
+unfolding mark_text
+mark_text-UnionTagType t = ap (λ x. (ty_spelled x).mark) (sym (ty.rolls-UnionTag t)) ∙ ap (λ s. s.mark) (fold-roll-Ty (List ℕ) (List ℕ) TyText ValueText arg_layer decl_layer ty_layer value_layer (layer.UnionTag t))
+
+pub place_is-UnionTagType : (t : Ty) → place_text (ty.UnionTag t) ≡ ty_text (ty.UnionTag t)
+place_is-UnionTagType t = place_text-UnionTagType t ∙ sym (ty_text-UnionTagType t)
+
 pub ty_text-FileType : (path : List ℕ) → ty_text (ty.File path) ≡ codes "@:" ++ path
 unfolding ty_text
 ty_text-FileType path = ap (λ x. (ty_spelled x).text) (sym (ty.rolls-File path)) ∙ ap (λ s. s.text) (fold-roll-Ty (List ℕ) (List ℕ) TyText ValueText arg_layer decl_layer ty_layer value_layer (layer.File path))
@@ -267,13 +282,13 @@ pub value_ty_text-TaggedValue : (t : Ty) (n : List ℕ) (v : Value) → value_ty
 unfolding value_ty_text ty_text
 value_ty_text-TaggedValue t n v = ap (λ x. (value_spelled x).ty) (sym (value.rolls-Tagged t n v)) ∙ ap (λ s. s.ty) (fold-roll-Value (List ℕ) (List ℕ) TyText ValueText arg_layer decl_layer ty_layer value_layer (layer.Tagged t n v))
 
-pub value_text-FunctionValue : (t : Ty) (d : DeclPath) → value_text (value.Function t d) ≡ decl_text d
+pub value_text-FunctionValue : (d : DeclPath) → value_text (value.Function d) ≡ decl_text d
 unfolding value_text value_ty_text decl_text
-value_text-FunctionValue t d = ap (λ x. (value_spelled x).text) (sym (value.rolls-Function t d)) ∙ ap (λ s. s.text) (fold-roll-Value (List ℕ) (List ℕ) TyText ValueText arg_layer decl_layer ty_layer value_layer (layer.Value::Function t d))
+value_text-FunctionValue d = ap (λ x. (value_spelled x).text) (sym (value.rolls-Function d)) ∙ ap (λ s. s.text) (fold-roll-Value (List ℕ) (List ℕ) TyText ValueText arg_layer decl_layer ty_layer value_layer (layer.Value::Function d))
 
-pub value_ty_text-FunctionValue : (t : Ty) (d : DeclPath) → value_ty_text (value.Function t d) ≡ ty_text t
+pub value_ty_text-FunctionValue : (d : DeclPath) → value_ty_text (value.Function d) ≡ codes "@function"
 unfolding value_ty_text ty_text
-value_ty_text-FunctionValue t d = ap (λ x. (value_spelled x).ty) (sym (value.rolls-Function t d)) ∙ ap (λ s. s.ty) (fold-roll-Value (List ℕ) (List ℕ) TyText ValueText arg_layer decl_layer ty_layer value_layer (layer.Value::Function t d))
+value_ty_text-FunctionValue d = ap (λ x. (value_spelled x).ty) (sym (value.rolls-Function d)) ∙ ap (λ s. s.ty) (fold-roll-Value (List ℕ) (List ℕ) TyText ValueText arg_layer decl_layer ty_layer value_layer (layer.Value::Function d))
 
 pub value_text-AddressValue : (t : Ty) (d : DeclPath) → value_text (value.Address t d) ≡ codes "&" ++ decl_text d
 unfolding value_text value_ty_text decl_text
@@ -290,6 +305,22 @@ value_text-ConstantValue t v = ap (λ x. (value_spelled x).text) (sym (value.rol
 pub value_ty_text-ConstantValue : (t : Ty) (v : Value) → value_ty_text (value.Constant t v) ≡ ty_text t
 unfolding value_ty_text ty_text
 value_ty_text-ConstantValue t v = ap (λ x. (value_spelled x).ty) (sym (value.rolls-Constant t v)) ∙ ap (λ s. s.ty) (fold-roll-Value (List ℕ) (List ℕ) TyText ValueText arg_layer decl_layer ty_layer value_layer (layer.Constant t v))
+
+pub value_text-PlaceValue : (t : Ty) (n : ℕ) → value_text (value.Place t n) ≡ codes "&@comptime" ++ number_text n
+unfolding value_text value_ty_text decl_text
+value_text-PlaceValue t n = ap (λ x. (value_spelled x).text) (sym (value.rolls-Place t n)) ∙ ap (λ s. s.text) (fold-roll-Value (List ℕ) (List ℕ) TyText ValueText arg_layer decl_layer ty_layer value_layer (layer.Place t n))
+
+pub value_ty_text-PlaceValue : (t : Ty) (n : ℕ) → value_ty_text (value.Place t n) ≡ ty_text t
+unfolding value_ty_text ty_text
+value_ty_text-PlaceValue t n = ap (λ x. (value_spelled x).ty) (sym (value.rolls-Place t n)) ∙ ap (λ s. s.ty) (fold-roll-Value (List ℕ) (List ℕ) TyText ValueText arg_layer decl_layer ty_layer value_layer (layer.Place t n))
+
+pub value_text-PartValue : (t : Ty) (v : Value) (n m : ℕ) → value_text (value.Part t v n m) ≡ value_text v ++ (codes "." ++ number_text n)
+unfolding value_text value_ty_text decl_text
+value_text-PartValue t v n m = ap (λ x. (value_spelled x).text) (sym (value.rolls-Part t v n m)) ∙ ap (λ s. s.text) (fold-roll-Value (List ℕ) (List ℕ) TyText ValueText arg_layer decl_layer ty_layer value_layer (layer.Part t v n m))
+
+pub value_ty_text-PartValue : (t : Ty) (v : Value) (n m : ℕ) → value_ty_text (value.Part t v n m) ≡ ty_text t
+unfolding value_ty_text ty_text
+value_ty_text-PartValue t v n m = ap (λ x. (value_spelled x).ty) (sym (value.rolls-Part t v n m)) ∙ ap (λ s. s.ty) (fold-roll-Value (List ℕ) (List ℕ) TyText ValueText arg_layer decl_layer ty_layer value_layer (layer.Part t v n m))
 
 pub value_text-SliceValue : (t : Ty) (v : Value) (lo hi : ℕ) → value_text (value.Slice t v lo hi) ≡ value_text v ++ (codes "[" ++ (number_text lo ++ (codes ".." ++ (number_text hi ++ codes "]"))))
 unfolding value_text value_ty_text decl_text
@@ -319,18 +350,22 @@ pub arg_text-Known : (v : Value) → arg_text (arg.Known v) ≡ value_ty_text v 
 unfolding arg_text value_text value_ty_text
 arg_text-Known v = ap arg_text (sym (arg.rolls-Known v)) ∙ fold-roll-Arg (List ℕ) (List ℕ) TyText ValueText arg_layer decl_layer ty_layer value_layer (layer.Known v)
 
+pub arg_text-Function : (t : Ty) (d : DeclPath) → arg_text (arg.Function t d) ≡ ty_text t ++ (codes "=" ++ decl_text d)
+unfolding arg_text ty_text decl_text
+arg_text-Function t d = ap arg_text (sym (arg.rolls-Function t d)) ∙ fold-roll-Arg (List ℕ) (List ℕ) TyText ValueText arg_layer decl_layer ty_layer value_layer (layer.Arg::Function t d)
+
 pub arg_text-Typed : (t : Ty) → arg_text (arg.Typed t) ≡ ty_text t
 unfolding arg_text ty_text
 arg_text-Typed t = ap arg_text (sym (arg.rolls-Typed t)) ∙ fold-roll-Arg (List ℕ) (List ℕ) TyText ValueText arg_layer decl_layer ty_layer value_layer (layer.Typed t)
 
-pub ruleset ty_texts = (ty_text-SimpleType, ty_text-IntType, ty_text-ErrorSetType, ty_text-PointerType, ty_text-SliceType, ty_text-ArrayType, ty_text-TerminatedType, ty_text-OptionalType, ty_text-ErrorUnionType, ty_text-ContainerType, ty_text-FunctionType, ty_text-FileType, append_assoc)
+pub ruleset ty_texts = (ty_text-SimpleType, ty_text-IntType, ty_text-ErrorSetType, ty_text-PointerType, ty_text-SliceType, ty_text-ArrayType, ty_text-TerminatedType, ty_text-OptionalType, ty_text-ErrorUnionType, ty_text-ContainerType, ty_text-FunctionType, ty_text-UnionTagType, ty_text-FileType, append_assoc)
 
-pub ruleset places = (place_is-SimpleType, mark_text-SimpleType, place_is-IntType, mark_text-IntType, place_is-ErrorSetType, mark_text-ErrorSetType, place_is-PointerType, mark_text-PointerType, place_is-SliceType, mark_text-SliceType, place_is-ArrayType, mark_text-ArrayType, place_is-TerminatedType, mark_text-TerminatedType, place_is-OptionalType, mark_text-OptionalType, place_is-ErrorUnionType, mark_text-ErrorUnionType, place_is-ContainerType, mark_text-ContainerType, place_is-FunctionType, mark_text-FunctionType, place_text-FileType, mark_text-FileType)
+pub ruleset places = (place_is-SimpleType, mark_text-SimpleType, place_is-IntType, mark_text-IntType, place_is-ErrorSetType, mark_text-ErrorSetType, place_is-PointerType, mark_text-PointerType, place_is-SliceType, mark_text-SliceType, place_is-ArrayType, mark_text-ArrayType, place_is-TerminatedType, mark_text-TerminatedType, place_is-OptionalType, mark_text-OptionalType, place_is-ErrorUnionType, mark_text-ErrorUnionType, place_is-ContainerType, mark_text-ContainerType, place_is-FunctionType, mark_text-FunctionType, place_is-UnionTagType, mark_text-UnionTagType, place_text-FileType, mark_text-FileType)
 
-pub ruleset value_texts = (value_text-SimpleValue, value_text-IntValue, value_text-TagValue, value_text-ErrorValue, value_text-SomeValue, value_text-GoodValue, value_text-ListValue, value_text-TextValue, value_text-TaggedValue, value_text-FunctionValue, value_text-AddressValue, value_text-ConstantValue, value_text-SliceValue, value_text-TypeValue, append_assoc)
+pub ruleset value_texts = (value_text-SimpleValue, value_text-IntValue, value_text-TagValue, value_text-ErrorValue, value_text-SomeValue, value_text-GoodValue, value_text-ListValue, value_text-TextValue, value_text-TaggedValue, value_text-FunctionValue, value_text-AddressValue, value_text-ConstantValue, value_text-PlaceValue, value_text-PartValue, value_text-SliceValue, value_text-TypeValue, append_assoc)
 
-pub ruleset value_ty_texts = (value_ty_text-SimpleValue, value_ty_text-IntValue, value_ty_text-TagValue, value_ty_text-ErrorValue, value_ty_text-SomeValue, value_ty_text-GoodValue, value_ty_text-ListValue, value_ty_text-TextValue, value_ty_text-TaggedValue, value_ty_text-FunctionValue, value_ty_text-AddressValue, value_ty_text-ConstantValue, value_ty_text-SliceValue, value_ty_text-TypeValue)
+pub ruleset value_ty_texts = (value_ty_text-SimpleValue, value_ty_text-IntValue, value_ty_text-TagValue, value_ty_text-ErrorValue, value_ty_text-SomeValue, value_ty_text-GoodValue, value_ty_text-ListValue, value_ty_text-TextValue, value_ty_text-TaggedValue, value_ty_text-FunctionValue, value_ty_text-AddressValue, value_ty_text-ConstantValue, value_ty_text-PlaceValue, value_ty_text-PartValue, value_ty_text-SliceValue, value_ty_text-TypeValue)
 
 pub ruleset decl_texts = (decl_text-Named, decl_text-Comptime, append_assoc)
 
-pub ruleset arg_texts = (arg_text-Known, arg_text-Typed, append_assoc)
+pub ruleset arg_texts = (arg_text-Known, arg_text-Function, arg_text-Typed, append_assoc)

@@ -1,9 +1,13 @@
 pub mod Denote
+pub mod Fit
 pub mod Heights
 pub mod Known
 pub mod Layers
 pub mod Means
+pub mod Parts
 pub mod Pool
+pub mod Reach
+pub mod Roles
 pub mod Spelling
 pub mod Tree
 pub mod Words

@@ -124,8 +124,9 @@ ty_layer (layer.ErrorUnion e t) = spelled (e.text ++ (codes "!" ++ t.text))
 ty_layer (layer.File path) = record { text = codes "@:" ++ path; place = path; mark = codes ":" }
 ty_layer (layer.Container d n captures) = spelled (d ++ (codes "#" ++ (number_text n ++ in_parens captures)))
 ty_layer (layer.Ty::Function ps r) = spelled (codes "fn(" ++ (commas (map (λ p. p.text) ps) ++ (codes ")" ++ r.text)))
+ty_layer (layer.UnionTag t) = spelled (codes "@tag(" ++ (t.text ++ codes ")"))
 
--- one layer of a value
+-- one layer of a value. A function has no type of its own, and an address in comptime memory is never spelled in a unit: the type of the one and the text of the other are only there to tell them
 abbrev pub value_layer : Value-F (List ℕ) (List ℕ) TyText ValueText → ValueText
 value_layer (layer.Value::Simple t s) = record { ty = t.text; text = known_text s }
 value_layer (layer.Value::Int t z) = record { ty = t.text; text = int_text z }
@@ -137,9 +138,11 @@ value_layer (layer.List t vs) = record { ty = t.text; text = codes "{" ++ (comma
 value_layer (layer.Text t bs) = record { ty = t.text; text = 34 ∷ (quoted bs ++ 34 ∷ []) }
 value_layer (layer.Tagged t name v) = record { ty = t.text; text = codes "." ++ (name_text name ++ (codes "{" ++ (v.text ++ codes "}"))) }
 value_layer (layer.OfType t) = record { ty = codes "type"; text = t.text }
-value_layer (layer.Value::Function t d) = record { ty = t.text; text = d }
+value_layer (layer.Value::Function d) = record { ty = codes "@function"; text = d }
 value_layer (layer.Address t d) = record { ty = t.text; text = codes "&" ++ d }
 value_layer (layer.Constant t v) = record { ty = t.text; text = codes "&(" ++ (v.ty ++ (codes "=" ++ (v.text ++ codes ")"))) }
+value_layer (layer.Place t n) = record { ty = t.text; text = codes "&@comptime" ++ number_text n }
+value_layer (layer.Part t v n c) = record { ty = t.text; text = v.text ++ (codes "." ++ number_text n) }
 value_layer (layer.Value::Slice t p lo hi) = record { ty = t.text; text = p.text ++ (codes "[" ++ (number_text lo ++ (codes ".." ++ (number_text hi ++ codes "]")))) }
 
 -- one layer of a declaration's path
@@ -147,9 +150,10 @@ abbrev pub decl_layer : DeclPath-F (List ℕ) (List ℕ) TyText ValueText → Li
 decl_layer (layer.Named c name) = c.place ++ (c.mark ++ name_text name)
 decl_layer (layer.Comptime path n) = path ++ (codes ":comptime " ++ number_text n)
 
--- one layer of an argument: its type, and its value where that is part of it
+-- one layer of an argument: its type, and its value where that is part of it. A function has its type beside it
 abbrev pub arg_layer : Arg-F (List ℕ) (List ℕ) TyText ValueText → List ℕ
 arg_layer (layer.Known v) = v.ty ++ (codes "=" ++ v.text)
+arg_layer (layer.Arg::Function t d) = t.text ++ (codes "=" ++ d)
 arg_layer (layer.Typed t) = t.text
 
 abbrev pub ty_spelled : Ty → TyText

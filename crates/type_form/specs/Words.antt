@@ -77,25 +77,31 @@ words_of (key.ErrorUnionType i j) = 9 ∷ i.0 ∷ j.0 ∷ []
 words_of (key.FileType l) = 10 ∷ l.0 ∷ []
 words_of (key.ContainerType d n l) = 11 ∷ d.0 ∷ n ∷ l.0 ∷ []
 words_of (key.FunctionType l i) = 12 ∷ l.0 ∷ i.0 ∷ []
-words_of (key.SimpleValue i s) = 13 ∷ i.0 ∷ word_of_known s ∷ []
-words_of (key.IntValue i z) = 14 ∷ i.0 ∷ words_of_int z
-words_of (key.TagValue i l) = 15 ∷ i.0 ∷ l.0 ∷ []
-words_of (key.ErrorValue i l) = 16 ∷ i.0 ∷ l.0 ∷ []
-words_of (key.SomeValue i j) = 17 ∷ i.0 ∷ j.0 ∷ []
-words_of (key.GoodValue i j) = 18 ∷ i.0 ∷ j.0 ∷ []
-words_of (key.ListValue i l) = 19 ∷ i.0 ∷ l.0 ∷ []
-words_of (key.TextValue i l) = 20 ∷ i.0 ∷ l.0 ∷ []
-words_of (key.TaggedValue i l j) = 21 ∷ i.0 ∷ l.0 ∷ j.0 ∷ []
-words_of (key.TypeValue i) = 22 ∷ i.0 ∷ []
-words_of (key.FunctionValue i d) = 23 ∷ i.0 ∷ d.0 ∷ []
-words_of (key.AddressValue i d) = 24 ∷ i.0 ∷ d.0 ∷ []
-words_of (key.ConstantValue i j) = 25 ∷ i.0 ∷ j.0 ∷ []
-words_of (key.SliceValue i j lo hi) = 26 ∷ i.0 ∷ j.0 ∷ lo ∷ hi ∷ []
-words_of (key.NamedDecl i l) = 27 ∷ i.0 ∷ l.0 ∷ []
-words_of (key.ComptimeDecl l n) = 28 ∷ l.0 ∷ n ∷ []
-words_of (key.Instance d l) = 29 ∷ d.0 ∷ l.0 ∷ []
-words_of (key.End ns) = 30 ∷ ns
-words_of (key.More ns i) = 31 ∷ i.0 ∷ ns
+words_of (key.UnionTagType i) = 13 ∷ i.0 ∷ []
+words_of (key.SimpleValue i s) = 14 ∷ i.0 ∷ word_of_known s ∷ []
+words_of (key.IntValue i z) = 15 ∷ i.0 ∷ words_of_int z
+words_of (key.TagValue i l) = 16 ∷ i.0 ∷ l.0 ∷ []
+words_of (key.ErrorValue i l) = 17 ∷ i.0 ∷ l.0 ∷ []
+words_of (key.SomeValue i j) = 18 ∷ i.0 ∷ j.0 ∷ []
+words_of (key.GoodValue i j) = 19 ∷ i.0 ∷ j.0 ∷ []
+words_of (key.ListValue i l) = 20 ∷ i.0 ∷ l.0 ∷ []
+words_of (key.TextValue i l) = 21 ∷ i.0 ∷ l.0 ∷ []
+words_of (key.TaggedValue i l j) = 22 ∷ i.0 ∷ l.0 ∷ j.0 ∷ []
+words_of (key.TypeValue i) = 23 ∷ i.0 ∷ []
+words_of (key.FunctionValue d) = 24 ∷ d.0 ∷ []
+words_of (key.AddressValue i d) = 25 ∷ i.0 ∷ d.0 ∷ []
+words_of (key.ConstantValue i j) = 26 ∷ i.0 ∷ j.0 ∷ []
+words_of (key.PlaceValue i n) = 27 ∷ i.0 ∷ n ∷ []
+words_of (key.PartValue i j n c) = 28 ∷ i.0 ∷ j.0 ∷ n ∷ c ∷ []
+words_of (key.SliceValue i j lo hi) = 29 ∷ i.0 ∷ j.0 ∷ lo ∷ hi ∷ []
+words_of (key.NamedDecl i l) = 30 ∷ i.0 ∷ l.0 ∷ []
+words_of (key.ComptimeDecl l n) = 31 ∷ l.0 ∷ n ∷ []
+words_of (key.KnownArg j) = 32 ∷ j.0 ∷ []
+words_of (key.FunctionArg i d) = 33 ∷ i.0 ∷ d.0 ∷ []
+words_of (key.TypedArg i) = 34 ∷ i.0 ∷ []
+words_of (key.Instance d l) = 35 ∷ d.0 ∷ l.0 ∷ []
+words_of (key.End ns) = 36 ∷ ns
+words_of (key.More ns i) = 37 ∷ i.0 ∷ ns
 
 -- what a key holds fits its words
 abbrev pub Fits : Key → Type 0
@@ -111,6 +117,7 @@ Fits (key.ErrorUnionType i j) = Unit {0}
 Fits (key.FileType l) = Unit {0}
 Fits (key.ContainerType d n l) = n < 2 ^ 32
 Fits (key.FunctionType l i) = Unit {0}
+Fits (key.UnionTagType i) = Unit {0}
 Fits (key.SimpleValue i s) = Unit {0}
 Fits (key.IntValue i z) = FitsInt z
 Fits (key.TagValue i l) = Unit {0}
@@ -121,12 +128,17 @@ Fits (key.ListValue i l) = Unit {0}
 Fits (key.TextValue i l) = Unit {0}
 Fits (key.TaggedValue i l j) = Unit {0}
 Fits (key.TypeValue i) = Unit {0}
-Fits (key.FunctionValue i d) = Unit {0}
+Fits (key.FunctionValue d) = Unit {0}
 Fits (key.AddressValue i d) = Unit {0}
 Fits (key.ConstantValue i j) = Unit {0}
+Fits (key.PlaceValue i n) = Unit {0}
+Fits (key.PartValue i j n c) = Unit {0}
 Fits (key.SliceValue i j lo hi) = Unit {0}
 Fits (key.NamedDecl i l) = Unit {0}
 Fits (key.ComptimeDecl l n) = n < 2 ^ 32
+Fits (key.KnownArg j) = Unit {0}
+Fits (key.FunctionArg i d) = Unit {0}
+Fits (key.TypedArg i) = Unit {0}
 Fits (key.Instance d l) = Unit {0}
 Fits (key.End ns) = length ns ≤ 60
 Fits (key.More ns i) = length ns ≤ 60
@@ -145,38 +157,44 @@ guess_type t ws =
     else if t == 9 then key.ErrorUnionType (index_of (slice_index ws 0)) (index_of (slice_index ws 1))
     else if t == 10 then key.FileType (index_of (slice_index ws 0))
     else if t == 11 then key.ContainerType (index_of (slice_index ws 0)) (slice_index ws 1 % 2 ^ 32) (index_of (slice_index ws 2))
-    else key.FunctionType (index_of (slice_index ws 0)) (index_of (slice_index ws 1))
+    else if t == 12 then key.FunctionType (index_of (slice_index ws 0)) (index_of (slice_index ws 1))
+    else key.UnionTagType (index_of (slice_index ws 0))
 
 -- the same of the kinds of values
 abbrev pub guess_value : ℕ → List ℕ → Key
 guess_value t ws =
-    if t == 13 then key.SimpleValue (index_of (slice_index ws 0)) (known_of_word (slice_index ws 1))
-    else if t == 14 then key.IntValue (index_of (slice_index ws 0)) (int_of_words (slice_index ws 1) (slice_index ws 2) (slice_index ws 3))
-    else if t == 15 then key.TagValue (index_of (slice_index ws 0)) (index_of (slice_index ws 1))
-    else if t == 16 then key.ErrorValue (index_of (slice_index ws 0)) (index_of (slice_index ws 1))
-    else if t == 17 then key.SomeValue (index_of (slice_index ws 0)) (index_of (slice_index ws 1))
-    else if t == 18 then key.GoodValue (index_of (slice_index ws 0)) (index_of (slice_index ws 1))
-    else if t == 19 then key.ListValue (index_of (slice_index ws 0)) (index_of (slice_index ws 1))
-    else if t == 20 then key.TextValue (index_of (slice_index ws 0)) (index_of (slice_index ws 1))
-    else if t == 21 then key.TaggedValue (index_of (slice_index ws 0)) (index_of (slice_index ws 1)) (index_of (slice_index ws 2))
-    else if t == 22 then key.TypeValue (index_of (slice_index ws 0))
-    else if t == 23 then key.FunctionValue (index_of (slice_index ws 0)) (index_of (slice_index ws 1))
-    else if t == 24 then key.AddressValue (index_of (slice_index ws 0)) (index_of (slice_index ws 1))
-    else if t == 25 then key.ConstantValue (index_of (slice_index ws 0)) (index_of (slice_index ws 1))
+    if t == 14 then key.SimpleValue (index_of (slice_index ws 0)) (known_of_word (slice_index ws 1))
+    else if t == 15 then key.IntValue (index_of (slice_index ws 0)) (int_of_words (slice_index ws 1) (slice_index ws 2) (slice_index ws 3))
+    else if t == 16 then key.TagValue (index_of (slice_index ws 0)) (index_of (slice_index ws 1))
+    else if t == 17 then key.ErrorValue (index_of (slice_index ws 0)) (index_of (slice_index ws 1))
+    else if t == 18 then key.SomeValue (index_of (slice_index ws 0)) (index_of (slice_index ws 1))
+    else if t == 19 then key.GoodValue (index_of (slice_index ws 0)) (index_of (slice_index ws 1))
+    else if t == 20 then key.ListValue (index_of (slice_index ws 0)) (index_of (slice_index ws 1))
+    else if t == 21 then key.TextValue (index_of (slice_index ws 0)) (index_of (slice_index ws 1))
+    else if t == 22 then key.TaggedValue (index_of (slice_index ws 0)) (index_of (slice_index ws 1)) (index_of (slice_index ws 2))
+    else if t == 23 then key.TypeValue (index_of (slice_index ws 0))
+    else if t == 24 then key.FunctionValue (index_of (slice_index ws 0))
+    else if t == 25 then key.AddressValue (index_of (slice_index ws 0)) (index_of (slice_index ws 1))
+    else if t == 26 then key.ConstantValue (index_of (slice_index ws 0)) (index_of (slice_index ws 1))
+    else if t == 27 then key.PlaceValue (index_of (slice_index ws 0)) (slice_index ws 1)
+    else if t == 28 then key.PartValue (index_of (slice_index ws 0)) (index_of (slice_index ws 1)) (slice_index ws 2) (slice_index ws 3)
     else key.SliceValue (index_of (slice_index ws 0)) (index_of (slice_index ws 1)) (slice_index ws 2) (slice_index ws 3)
 
 -- the same of the other kinds
 abbrev pub guess_other : ℕ → List ℕ → Key
 guess_other t ws =
-    if t == 27 then key.NamedDecl (index_of (slice_index ws 0)) (index_of (slice_index ws 1))
-    else if t == 28 then key.ComptimeDecl (index_of (slice_index ws 0)) (slice_index ws 1 % 2 ^ 32)
-    else if t == 29 then key.Instance (index_of (slice_index ws 0)) (index_of (slice_index ws 1))
-    else if t == 30 then key.End (take 60 ws)
+    if t == 30 then key.NamedDecl (index_of (slice_index ws 0)) (index_of (slice_index ws 1))
+    else if t == 31 then key.ComptimeDecl (index_of (slice_index ws 0)) (slice_index ws 1 % 2 ^ 32)
+    else if t == 32 then key.KnownArg (index_of (slice_index ws 0))
+    else if t == 33 then key.FunctionArg (index_of (slice_index ws 0)) (index_of (slice_index ws 1))
+    else if t == 34 then key.TypedArg (index_of (slice_index ws 0))
+    else if t == 35 then key.Instance (index_of (slice_index ws 0)) (index_of (slice_index ws 1))
+    else if t == 36 then key.End (take 60 ws)
     else key.More (take 60 (drop 1 ws)) (index_of (slice_index ws 0))
 
 -- the same of all kinds
 abbrev pub guess_by : ℕ → List ℕ → Key
-guess_by t ws = if nat_lt t 13 then guess_type t ws else if nat_lt t 27 then guess_value t ws else guess_other t ws
+guess_by t ws = if nat_lt t 14 then guess_type t ws else if nat_lt t 30 then guess_value t ws else guess_other t ws
 
 -- the only key that may have these words
 abbrev pub guess : List ℕ → Key

@@ -1,5 +1,6 @@
 // One layer of what an index stands for, with indices in place of its parts.
 ghost use Rattle.std.specs.Prelude.{◌≡◌, ◌+◌, ◌<◌, [], ◌∷◌, ◌++◌, length, slice_index, ◌≤◌};
+ghost use Rattle.type_form.specs.Means.{AreBytes};
 
 use crate::index::Index;
 use crate::tree::{SimpleTy, SimpleValue};
@@ -116,7 +117,8 @@ impl Few {
     /// The bytes of a slice as numbers. Takes no memory.
     pub fn of_bytes(bytes: &[u8]) -> Few
         requires { length bytes.now ≤ 60 }
-        ensures { result ≡ bytes.now }
+        ensures value { result ≡ bytes.now }
+        ensures bytes { AreBytes bytes.now }
     {
         let mut few = [0u64; 60];
         for (i, byte) in bytes.iter().enumerate() {
@@ -189,6 +191,10 @@ pub enum Key {
         params: Index,
         result: Index,
     },
+    /// The own enum of a union.
+    UnionTagType {
+        union_ty: Index,
+    },
     /// A value that is one word.
     SimpleValue {
         ty: Index,
@@ -234,7 +240,6 @@ pub enum Key {
         of: Index,
     },
     FunctionValue {
-        ty: Index,
         decl: Index,
     },
     AddressValue {
@@ -244,6 +249,18 @@ pub enum Key {
     ConstantValue {
         ty: Index,
         target: Index,
+    },
+    /// The address of a place in comptime memory.
+    PlaceValue {
+        ty: Index,
+        place: u64,
+    },
+    /// The address of a part of what another address in comptime memory points to.
+    PartValue {
+        ty: Index,
+        whole: Index,
+        part: u64,
+        count: u64,
     },
     SliceValue {
         ty: Index,
@@ -260,6 +277,19 @@ pub enum Key {
     ComptimeDecl {
         file: Index,
         number: u32,
+    },
+    /// An argument that is a value.
+    KnownArg {
+        value: Index,
+    },
+    /// An argument that is a function, with its type.
+    FunctionArg {
+        ty: Index,
+        decl: Index,
+    },
+    /// An argument that is a type alone.
+    TypedArg {
+        ty: Index,
     },
     /// An instance: its declaration, and the list of its arguments.
     Instance {

@@ -6,6 +6,7 @@ ghost use Rattle.type_form.specs.Known.{Known, key_at, IsInjective, Keeps};
 ghost use Rattle.type_form.specs.Words.{words_of, key_of, Fits};
 ghost use Rattle.type_form.specs.Denote.{denoted, node_of};
 ghost use Rattle.type_form.specs.Means.{Grows, IsTy, ty_at, IsValue, value_at, IsDecl, decl_at, IsInstance, instance_at, IsList, list_at};
+ghost use Rattle.type_form.specs.Parts.{PartsDenote, PartsTurn};
 
 /// Words and keys are inverse: a key that fits its words is read from them, and only a key that
 /// has the words is read from words. So two keys with the same words are one key.
@@ -29,4 +30,10 @@ pub fn equal_trees_have_one_index()
     ensures decl { (k : Known) (i j : Index) → IsInjective k → IsDecl k i → IsDecl k j → (decl_at k i ≡ decl_at k j) ↔ (i ≡ j) }
     ensures instance { (k : Known) (i j : Index) → IsInjective k → IsInstance k i → IsInstance k j → (instance_at k i ≡ instance_at k j) ↔ (i ≡ j) }
     ensures list { (k : Known) (i j : Index) → IsInjective k → IsList k i → IsList k j → (list_at k i ≡ list_at k j) ↔ (i ≡ j) }
+{}
+
+/// Which words of a key are indices, and of what, is what counts for what the key denotes.
+pub fn roles_are_parts()
+    ensures denote { PartsDenote }
+    ensures turn { PartsTurn }
 {}

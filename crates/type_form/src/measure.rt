@@ -143,6 +143,7 @@ pub fn spelled_len(t: &Ty) -> u32
             let front = add(4, tys_len(params.as_slice()));
             add(front, spelled_len(result.get()))
         }
+        Ty::UnionTag(union_ty) => add(6, spelled_len(union_ty.get())),
     }
 }
 
@@ -178,6 +179,7 @@ pub fn place_len(container: &Ty) -> u32
         Ty::ErrorUnion { .. } => spelled_len(container),
         Ty::Container { .. } => spelled_len(container),
         Ty::Function { .. } => spelled_len(container),
+        Ty::UnionTag(_) => spelled_len(container),
     }
 }
 
@@ -216,6 +218,10 @@ pub fn arg_len(arg: &Arg) -> u32
         Arg::Known(value) => {
             let front = add(value_ty_len(value), 1);
             add(front, value_len(value))
+        }
+        Arg::Function { ty, decl } => {
+            let front = add(spelled_len(ty), 1);
+            add(front, decl_len(decl))
         }
         Arg::Typed(ty) => spelled_len(ty),
     }
@@ -256,9 +262,11 @@ pub fn value_ty_len(value: &Value) -> u32
         Value::Text { ty, .. } => spelled_len(ty),
         Value::Tagged { ty, .. } => spelled_len(ty),
         Value::OfType(_) => 4,
-        Value::Function { ty, .. } => spelled_len(ty),
+        Value::Function(_) => 9,
         Value::Address { ty, .. } => spelled_len(ty),
         Value::Constant { ty, .. } => spelled_len(ty),
+        Value::Place { ty, .. } => spelled_len(ty),
+        Value::Part { ty, .. } => spelled_len(ty),
         Value::Slice { ty, .. } => spelled_len(ty),
     }
 }
@@ -283,11 +291,16 @@ pub fn value_len(value: &Value) -> u32
             add(front, value_len(payload.get()))
         }
         Value::OfType(ty) => spelled_len(ty),
-        Value::Function { decl, .. } => decl_len(decl),
+        Value::Function(decl) => decl_len(decl),
         Value::Address { decl, .. } => add(1, decl_len(decl)),
         Value::Constant { target, .. } => {
             let front = add(4, value_ty_len(target.get()));
             add(front, value_len(target.get()))
+        }
+        Value::Place { place, .. } => add(10, number_len(u128::from(*place))),
+        Value::Part { whole, part, .. } => {
+            let front = add(value_len(whole.get()), 1);
+            add(front, number_len(u128::from(*part)))
         }
         Value::Slice {
             pointer,

@@ -125,6 +125,11 @@ pub fn put_ty(out: &mut Vec<u8>, ty: &Ty) -> Result<(), AllocError>
             put(out, b")")?;
             put_ty(out, result.get())
         }
+        Ty::UnionTag(union_ty) => {
+            put(out, b"@tag(")?;
+            put_ty(out, union_ty.get())?;
+            put(out, b")")
+        }
     }
 }
 
@@ -162,6 +167,7 @@ pub fn put_place(out: &mut Vec<u8>, container: &Ty) -> Result<(), AllocError>
         Ty::ErrorUnion { .. } => put_ty(out, container),
         Ty::Container { .. } => put_ty(out, container),
         Ty::Function { .. } => put_ty(out, container),
+        Ty::UnionTag(_) => put_ty(out, container),
     }
 }
 
@@ -206,6 +212,11 @@ pub fn put_arg(out: &mut Vec<u8>, arg: &Arg) -> Result<(), AllocError>
             put(out, b"=")?;
             put_value(out, value)
         }
+        Arg::Function { ty, decl } => {
+            put_ty(out, ty)?;
+            put(out, b"=")?;
+            put_decl(out, decl)
+        }
         Arg::Typed(ty) => put_ty(out, ty),
     }
 }
@@ -248,6 +259,7 @@ pub fn mark(container: &Ty) -> &'static [u8]
         Ty::ErrorUnion { .. } => b".",
         Ty::Container { .. } => b".",
         Ty::Function { .. } => b".",
+        Ty::UnionTag(_) => b".",
     }
 }
 
@@ -268,9 +280,11 @@ pub fn put_value_ty(out: &mut Vec<u8>, value: &Value) -> Result<(), AllocError>
         Value::Text { ty, .. } => put_ty(out, ty),
         Value::Tagged { ty, .. } => put_ty(out, ty),
         Value::OfType(_) => put(out, b"type"),
-        Value::Function { ty, .. } => put_ty(out, ty),
+        Value::Function(_) => put(out, b"@function"),
         Value::Address { ty, .. } => put_ty(out, ty),
         Value::Constant { ty, .. } => put_ty(out, ty),
+        Value::Place { ty, .. } => put_ty(out, ty),
+        Value::Part { ty, .. } => put_ty(out, ty),
         Value::Slice { ty, .. } => put_ty(out, ty),
     }
 }
@@ -318,12 +332,21 @@ pub fn put_value(out: &mut Vec<u8>, value: &Value) -> Result<(), AllocError>
             put(out, b"}")
         }
         Value::OfType(ty) => put_ty(out, ty),
-        Value::Function { decl, .. } => put_decl(out, decl),
+        Value::Function(decl) => put_decl(out, decl),
         Value::Address { decl, .. } => {
             put(out, b"&")?;
             put_decl(out, decl)
         }
         Value::Constant { target, .. } => put_constant(out, target.get()),
+        Value::Place { place, .. } => {
+            put(out, b"&@comptime")?;
+            put_number(out, u128::from(*place))
+        }
+        Value::Part { whole, part, .. } => {
+            put_value(out, whole.get())?;
+            put(out, b".")?;
+            put_number(out, u128::from(*part))
+        }
         Value::Slice {
             pointer,
             low,

@@ -364,14 +364,43 @@ fn values_of_values(rt: HostRuntime) -> Result<(), Fail> {
 }
 
 #[test]
+fn union_without_a_payload(rt: HostRuntime) -> Result<(), Fail> {
+    let a = rt.alloc();
+    let nothing = Value::Simple {
+        ty: Ty::Simple(SimpleTy::Void),
+        value: SimpleValue::Void,
+    };
+    let payload = Boxed::new(a, nothing)?;
+    let value = Value::Tagged {
+        ty: container(a, false)?,
+        name: bytes(a, b"t")?,
+        payload,
+    };
+    assert_eq!(rt;
+        known(a, value)?.as_slice(),
+        b"body m.zig:f(m.zig:f#1=.t{{}})".as_slice()
+    );
+    let union_ty = Boxed::new(a, container(a, false)?)?;
+    let value = Value::Tag {
+        ty: Ty::UnionTag(union_ty),
+        name: bytes(a, b"t")?,
+    };
+    assert_eq!(rt;
+        known(a, value)?.as_slice(),
+        b"body m.zig:f(@tag(m.zig:f#1)=.t)".as_slice()
+    );
+    Ok(())
+}
+
+#[test]
 fn addresses(rt: HostRuntime) -> Result<(), Fail> {
     let a = rt.alloc();
-    let value = Value::Function {
+    let arg = Arg::Function {
         ty: function(a)?,
         decl: decl(a)?,
     };
     assert_eq!(rt;
-        known(a, value)?.as_slice(),
+        with_arg(a, arg)?.as_slice(),
         b"body m.zig:f(fn(u8,type)void=m.zig:f)".as_slice()
     );
     let ty = Ty::Pointer {

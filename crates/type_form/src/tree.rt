@@ -84,6 +84,8 @@ pub enum Ty {
         params: Items<Ty>,
         result: Boxed<Ty>,
     },
+    /// The own enum of a `union(enum)`, by the union.
+    UnionTag(Boxed<Ty>),
 }
 
 /// A declaration, or a block at the top level of a file.
@@ -122,7 +124,7 @@ pub enum Value {
         ty: Ty,
         number: i128,
     },
-    /// A member of an enum, a member without payload of a union, or the literal `.name`.
+    /// A member of an enum, or the literal `.name`.
     Tag {
         ty: Ty,
         name: Bytes,
@@ -152,7 +154,7 @@ pub enum Value {
         ty: Ty,
         bytes: Bytes,
     },
-    /// A member of a union with its payload.
+    /// A member of a union with its payload, which is the value of `void` where it has none.
     Tagged {
         ty: Ty,
         name: Bytes,
@@ -160,11 +162,8 @@ pub enum Value {
     },
     /// A type as a value.
     OfType(Ty),
-    /// A function.
-    Function {
-        ty: Ty,
-        decl: DeclPath,
-    },
+    /// A function, by its declaration alone: its type is made from its head where it is asked for.
+    Function(DeclPath),
     /// The address of a declaration.
     Address {
         ty: Ty,
@@ -174,6 +173,19 @@ pub enum Value {
     Constant {
         ty: Ty,
         target: Boxed<Value>,
+    },
+    /// The address of a place in comptime memory, by its number. It is a value while its unit runs.
+    Place {
+        ty: Ty,
+        place: u64,
+    },
+    /// The address of a part of what another address in comptime memory points to: which part it
+    /// is, from 0, and of how many.
+    Part {
+        ty: Ty,
+        whole: Boxed<Value>,
+        part: u64,
+        count: u64,
     },
     /// A slice: the elements from `low` to before `high` of what `pointer` points to.
     Slice {
@@ -188,8 +200,10 @@ pub enum Value {
 #[cycle(tree)]
 #[derive(Drop)]
 pub enum Arg {
-    /// A comptime value.
+    /// A comptime value that is no function.
     Known(Value),
+    /// A function, with its type.
+    Function { ty: Ty, decl: DeclPath },
     /// The type of an `anytype` argument whose value is no part of the instance.
     Typed(Ty),
 }

@@ -1,7 +1,7 @@
 // Lists of numbers, as chains of chunk keys.
 ghost use Rattle.std.specs.Prelude.{◌≡◌, ◌≤◌, ◌<◌, ◌++◌, length, IfOk, OnOk};
 ghost use Rattle.type_form.specs.Known.{Known, IsInjective};
-ghost use Rattle.type_form.specs.Means.{IsList, list_at, DenotesList};
+ghost use Rattle.type_form.specs.Means.{IsList, list_at, DenotesList, IsBytes, bytes_at, DenotesBytes};
 ghost use Rattle.type_form.specs.Pool.{Reads, Interns, is_full};
 
 use crate::intern::intern_key;
@@ -51,19 +51,40 @@ pub fn intern_list<I: Interner>(items: &[u64], p: &mut I) -> Result<Index, Inter
     Ok(list)
 }
 
+/// At most 60 bytes.
+fn short_bytes<I: Interner>(bytes: &[u8], p: &mut I) -> Result<Index, InternFault>
+    requires { length bytes.now ≤ 60 }
+    ensures interns { Interns I.known I.home I.fulls p.old p.new (is_full result) }
+    ensures agrees { IsInjective (I.known p.new) }
+    ensures bytes { IfOk result (λ i. DenotesBytes (I.known p.new) i bytes.now) }
+{
+    short_list(Few::of_bytes(bytes), p)
+}
+
+/// 60 bytes and the others, of which there is one at least.
+fn longer_bytes<I: Interner>(bytes: &[u8], rest: Index, p: &mut I) -> Result<Index, InternFault>
+    requires count { length bytes.now ≡ 60 }
+    requires rest_known { IsBytes (I.known p.old) rest }
+    requires some { 0 < length (bytes_at (I.known p.old) rest) }
+    ensures interns { Interns I.known I.home I.fulls p.old p.new (is_full result) }
+    ensures agrees { IsInjective (I.known p.new) }
+    ensures bytes { IfOk result (λ i. DenotesBytes (I.known p.new) i (bytes.now ++ bytes_at (I.known p.old) rest)) }
+{
+    longer_list(Few::of_bytes(bytes), rest, p)
+}
+
 /// A list of bytes: a name, a path or a text.
 pub fn intern_bytes<I: Interner>(bytes: &[u8], p: &mut I) -> Result<Index, InternFault>
     ensures interns { Interns I.known I.home I.fulls p.old p.new (is_full result) }
     ensures agrees { IsInjective (I.known p.new) }
-    ensures list { IfOk result (λ i. DenotesList (I.known p.new) i bytes.now) }
+    ensures bytes { IfOk result (λ i. DenotesBytes (I.known p.new) i bytes.now) }
 {
     let mut chunks = bytes.len().saturating_sub(1) / CHUNK;
-    let mut list = short_list(Few::of_bytes(&bytes[chunks * CHUNK..]), p)?;
+    let mut list = short_bytes(&bytes[chunks * CHUNK..], p)?;
     while chunks > 0 {
         chunks -= 1;
         let start = chunks * CHUNK;
-        let chunk = Few::of_bytes(&bytes[start..start + CHUNK]);
-        list = longer_list(chunk, list, p)?;
+        list = longer_bytes(&bytes[start..start + CHUNK], list, p)?;
     }
     Ok(list)
 }

@@ -163,37 +163,48 @@ pub fn words_of(k: &Key, into: &mut KeyBuf)
             captures,
         } => into.set(&[11, decl.0, u64::from(*ordinal), captures.0]),
         Key::FunctionType { params, result } => into.set(&[12, params.0, result.0]),
-        Key::SimpleValue { ty, value } => into.set(&[13, ty.0, known_word(*value)]),
+        Key::UnionTagType { union_ty } => into.set(&[13, union_ty.0]),
+        Key::SimpleValue { ty, value } => into.set(&[14, ty.0, known_word(*value)]),
         Key::IntValue { ty, number } => {
-            into.set(&[14, ty.0]);
+            into.set(&[15, ty.0]);
             into.append(&int_words(*number));
         }
-        Key::TagValue { ty, name } => into.set(&[15, ty.0, name.0]),
-        Key::ErrorValue { ty, name } => into.set(&[16, ty.0, name.0]),
-        Key::SomeValue { ty, payload } => into.set(&[17, ty.0, payload.0]),
-        Key::GoodValue { ty, payload } => into.set(&[18, ty.0, payload.0]),
-        Key::ListValue { ty, parts } => into.set(&[19, ty.0, parts.0]),
-        Key::TextValue { ty, bytes } => into.set(&[20, ty.0, bytes.0]),
-        Key::TaggedValue { ty, name, payload } => into.set(&[21, ty.0, name.0, payload.0]),
-        Key::TypeValue { of } => into.set(&[22, of.0]),
-        Key::FunctionValue { ty, decl } => into.set(&[23, ty.0, decl.0]),
-        Key::AddressValue { ty, decl } => into.set(&[24, ty.0, decl.0]),
-        Key::ConstantValue { ty, target } => into.set(&[25, ty.0, target.0]),
+        Key::TagValue { ty, name } => into.set(&[16, ty.0, name.0]),
+        Key::ErrorValue { ty, name } => into.set(&[17, ty.0, name.0]),
+        Key::SomeValue { ty, payload } => into.set(&[18, ty.0, payload.0]),
+        Key::GoodValue { ty, payload } => into.set(&[19, ty.0, payload.0]),
+        Key::ListValue { ty, parts } => into.set(&[20, ty.0, parts.0]),
+        Key::TextValue { ty, bytes } => into.set(&[21, ty.0, bytes.0]),
+        Key::TaggedValue { ty, name, payload } => into.set(&[22, ty.0, name.0, payload.0]),
+        Key::TypeValue { of } => into.set(&[23, of.0]),
+        Key::FunctionValue { decl } => into.set(&[24, decl.0]),
+        Key::AddressValue { ty, decl } => into.set(&[25, ty.0, decl.0]),
+        Key::ConstantValue { ty, target } => into.set(&[26, ty.0, target.0]),
+        Key::PlaceValue { ty, place } => into.set(&[27, ty.0, *place]),
+        Key::PartValue {
+            ty,
+            whole,
+            part,
+            count,
+        } => into.set(&[28, ty.0, whole.0, *part, *count]),
         Key::SliceValue {
             ty,
             pointer,
             low,
             high,
-        } => into.set(&[26, ty.0, pointer.0, *low, *high]),
-        Key::NamedDecl { container, name } => into.set(&[27, container.0, name.0]),
-        Key::ComptimeDecl { file, number } => into.set(&[28, file.0, u64::from(*number)]),
-        Key::Instance { decl, args } => into.set(&[29, decl.0, args.0]),
+        } => into.set(&[29, ty.0, pointer.0, *low, *high]),
+        Key::NamedDecl { container, name } => into.set(&[30, container.0, name.0]),
+        Key::ComptimeDecl { file, number } => into.set(&[31, file.0, u64::from(*number)]),
+        Key::KnownArg { value } => into.set(&[32, value.0]),
+        Key::FunctionArg { ty, decl } => into.set(&[33, ty.0, decl.0]),
+        Key::TypedArg { ty } => into.set(&[34, ty.0]),
+        Key::Instance { decl, args } => into.set(&[35, decl.0, args.0]),
         Key::End(items) => {
-            into.set(&[30]);
+            into.set(&[36]);
             into.append(items.as_slice());
         }
         Key::More { items, rest } => {
-            into.set(&[31, rest.0]);
+            into.set(&[37, rest.0]);
             into.append(items.as_slice());
         }
     }
@@ -242,9 +253,12 @@ fn guess_type(kind: u64, words: &[u64]) -> Key
             ordinal: low_half(words, 1),
             captures: index(words, 2),
         },
-        _ => Key::FunctionType {
+        12 => Key::FunctionType {
             params: index(words, 0),
             result: index(words, 1),
+        },
+        _ => Key::UnionTagType {
+            union_ty: index(words, 0),
         },
     }
 }
@@ -254,57 +268,66 @@ fn guess_value(kind: u64, words: &[u64]) -> Key
     ensures { result ≡ guess_value kind words.now }
 {
     match kind {
-        13 => Key::SimpleValue {
+        14 => Key::SimpleValue {
             ty: index(words, 0),
             value: known_of(word(words, 1)),
         },
-        14 => Key::IntValue {
+        15 => Key::IntValue {
             ty: index(words, 0),
             number: int_of(word(words, 1), word(words, 2), word(words, 3)),
         },
-        15 => Key::TagValue {
+        16 => Key::TagValue {
             ty: index(words, 0),
             name: index(words, 1),
         },
-        16 => Key::ErrorValue {
+        17 => Key::ErrorValue {
             ty: index(words, 0),
             name: index(words, 1),
         },
-        17 => Key::SomeValue {
+        18 => Key::SomeValue {
             ty: index(words, 0),
             payload: index(words, 1),
         },
-        18 => Key::GoodValue {
+        19 => Key::GoodValue {
             ty: index(words, 0),
             payload: index(words, 1),
         },
-        19 => Key::ListValue {
+        20 => Key::ListValue {
             ty: index(words, 0),
             parts: index(words, 1),
         },
-        20 => Key::TextValue {
+        21 => Key::TextValue {
             ty: index(words, 0),
             bytes: index(words, 1),
         },
-        21 => Key::TaggedValue {
+        22 => Key::TaggedValue {
             ty: index(words, 0),
             name: index(words, 1),
             payload: index(words, 2),
         },
-        22 => Key::TypeValue {
+        23 => Key::TypeValue {
             of: index(words, 0),
         },
-        23 => Key::FunctionValue {
+        24 => Key::FunctionValue {
+            decl: index(words, 0),
+        },
+        25 => Key::AddressValue {
             ty: index(words, 0),
             decl: index(words, 1),
         },
-        24 => Key::AddressValue {
-            ty: index(words, 0),
-            decl: index(words, 1),
-        },
-        25 => Key::ConstantValue {
+        26 => Key::ConstantValue {
             ty: index(words, 0),
             target: index(words, 1),
+        },
+        27 => Key::PlaceValue {
+            ty: index(words, 0),
+            place: word(words, 1),
+        },
+        28 => Key::PartValue {
+            ty: index(words, 0),
+            whole: index(words, 1),
+            part: word(words, 2),
+            count: word(words, 3),
         },
         _ => Key::SliceValue {
             ty: index(words, 0),
@@ -320,19 +343,29 @@ fn guess_other(kind: u64, words: &[u64]) -> Key
     ensures { result ≡ guess_other kind words.now }
 {
     match kind {
-        27 => Key::NamedDecl {
+        30 => Key::NamedDecl {
             container: index(words, 0),
             name: index(words, 1),
         },
-        28 => Key::ComptimeDecl {
+        31 => Key::ComptimeDecl {
             file: index(words, 0),
             number: low_half(words, 1),
         },
-        29 => Key::Instance {
+        32 => Key::KnownArg {
+            value: index(words, 0),
+        },
+        33 => Key::FunctionArg {
+            ty: index(words, 0),
+            decl: index(words, 1),
+        },
+        34 => Key::TypedArg {
+            ty: index(words, 0),
+        },
+        35 => Key::Instance {
             decl: index(words, 0),
             args: index(words, 1),
         },
-        30 => Key::End(first_words(words)),
+        36 => Key::End(first_words(words)),
         _ => Key::More {
             items: first_words(from(words, 1)),
             rest: index(words, 0),
@@ -353,9 +386,9 @@ fn guess(words: &[u64]) -> Key
 {
     let kind = word(words, 0);
     let rest = from(words, 1);
-    if kind < 13 {
+    if kind < 14 {
         guess_type(kind, rest)
-    } else if kind < 27 {
+    } else if kind < 30 {
         guess_value(kind, rest)
     } else {
         guess_other(kind, rest)

@@ -1,5 +1,5 @@
 -- What the first bytes of a type tell of it.
-use Rattle.std.proofs.Common.{◌≡◌, ℕ, ◌==◌, ◌&&◌, ◌||◌, Bool, true, false, if◌then◌else◌, List, [], ◌∷◌, ◌++◌, codes, refl, ap, ◌∙◌, append_assoc, arith}
+use Rattle.std.proofs.Common.{◌≡◌, ℕ, ◌≤◌, ◌==◌, ◌&&◌, ◌||◌, Bool, true, false, if◌then◌else◌, List, [], ◌∷◌, ◌++◌, codes, refl, ap, ◌∙◌, append_assoc, arith}
 use Rattle.std.specs.List.{list_all, list_any}
 use Rattle.std.specs.Str.{bytes_eq}
 use Rattle.zw_base.specs.Path.{is_path_byte}
@@ -9,7 +9,7 @@ use Rattle.type_form.specs.declared.tree.SimpleTy.{SimpleTy}
 use Rattle.type_form.specs.declared.tree.SimpleTy.TheVariants as simple
 use Rattle.type_form.specs.Tree.{TyLayer}
 use Rattle.type_form.specs.Spelling.{number_text, simple_text, decl_text, ty_text}
-use Rattle.type_laws.specs.Fit.{IsNumber, IsPath, IsErrorSet, ty_fits}
+use Rattle.type_form.specs.Fit.{Program, IsNumber, IsPath, IsErrorSet, ty_fits}
 use Rattle.type_laws.proofs.Runs.{stops, is_digit, and_left, and_right, number_digits}
 use Rattle.type_laws.proofs.Ends.{Ends, Run, run, run_of, ends_path}
 use Rattle.type_laws.proofs.Ends.Ends.{nothing, comma, round, equals, brace, square}
@@ -29,7 +29,7 @@ word_kind w = if is_int_word w then 10 else if list_any (bytes_eq w) simple_word
 
 abbrev at_kind : List ℕ → ℕ
 at_kind [] = 6
-at_kind (c ∷ x) = if c == 58 then 5 else 6
+at_kind (c ∷ x) = if c == 58 then 5 else if c == 116 then 11 else 6
 
 abbrev byte_kind : List ℕ → ℕ → List ℕ → ℕ
 byte_kind [] c x = if c == 63 then 1 else if c == 42 then 2 else if c == 91 then 4 else if c == 64 then at_kind x else 0
@@ -110,6 +110,7 @@ kind_of (layer.ErrorUnion e t) = 8
 kind_of (layer.File path) = 5
 kind_of (layer.Container d n l) = 7
 kind_of (layer.Ty::Function ps r) = 6
+kind_of (layer.UnionTag t) = 11
 
 pointer_kind : (c : Bool) (z x : List ℕ) → kind (((if c then codes "*const " else codes "*") ++ z) ++ x) ≡ 2
 unfolding kind
@@ -121,9 +122,9 @@ unfolding kind
 slice_kind true z x = refl
 slice_kind false z x = refl
 
-fixed_kinds : (z x : List ℕ) → (kind ((codes "error{" ++ z) ++ x) ≡ 8) × (kind ((codes "[" ++ z) ++ x) ≡ 4) × (kind ((codes "?" ++ z) ++ x) ≡ 1) × (kind ((codes "@:" ++ z) ++ x) ≡ 5) × (kind ((codes "fn(" ++ z) ++ x) ≡ 6)
+fixed_kinds : (z x : List ℕ) → (kind ((codes "error{" ++ z) ++ x) ≡ 8) × (kind ((codes "[" ++ z) ++ x) ≡ 4) × (kind ((codes "?" ++ z) ++ x) ≡ 1) × (kind ((codes "@:" ++ z) ++ x) ≡ 5) × (kind ((codes "fn(" ++ z) ++ x) ≡ 6) × (kind ((codes "@tag(" ++ z) ++ x) ≡ 11)
 unfolding kind
-fixed_kinds z x = (refl, refl, refl, refl, refl)
+fixed_kinds z x = (refl, refl, refl, refl, refl, refl)
 
 union_kind : (l : TyLayer) (z x : List ℕ) → IsErrorSet l → kind ((ty_shape l ++ (33 ∷ z)) ++ x) ≡ 8
 unfolding kind
@@ -148,20 +149,24 @@ headed_kind text z x h =
     ap kind (append_assoc text z x ∙ ap (λ t. t ++ (z ++ x)) h.is ∙ append_assoc h.path (58 ∷ h.rest) (z ++ x))
     ∙ place_kind h.path (h.rest ++ (z ++ x)) h.is_path
 
+pub width_number : (n : ℕ) → n ≤ 64 → IsNumber n
+width_number n h = omega (arith, h)
+
 -- a type's text tells its kind
-pub kind_is : (l : TyLayer) (x : List ℕ) → IsHeadedIn l → ty_fits l → Ends x → kind (ty_shape l ++ x) ≡ kind_of l
-kind_is (layer.Ty::Simple s) x h f e = simple_kind s x e
-kind_is (layer.Ty::Int s n) x h f e = int_kind s n x f e
-kind_is (layer.ErrorSet ns) x h f e = (fixed_kinds _ x).0
-kind_is (layer.Pointer c t) x h f e = pointer_kind c _ x
-kind_is (layer.Ty::Slice c t) x h f e = slice_kind c _ x
-kind_is (layer.Array n t) x h f e = (fixed_kinds _ x).1
-kind_is (layer.Terminated n) x h f e = (fixed_kinds _ x).1
-kind_is (layer.Optional t) x h f e = (fixed_kinds _ x).2
-kind_is (layer.ErrorUnion s t) x h f e = ap (λ z. kind ((z ++ 33 ∷ ty_text t) ++ x)) (ty_out s) ∙ union_kind (out-Ty s) (ty_text t) x f
-kind_is (layer.File path) x h f e = (fixed_kinds _ x).3
-kind_is (layer.Container d n l) x h f e = headed_kind (decl_text d) _ x h
-kind_is (layer.Ty::Function ps r) x h f e = (fixed_kinds _ x).4
+pub kind_is : (p : Program) (l : TyLayer) (x : List ℕ) → IsHeadedIn l → ty_fits p l → Ends x → kind (ty_shape l ++ x) ≡ kind_of l
+kind_is p (layer.Ty::Simple s) x h f e = simple_kind s x e
+kind_is p (layer.Ty::Int s n) x h f e = int_kind s n x (width_number n f.1) e
+kind_is p (layer.ErrorSet ns) x h f e = (fixed_kinds _ x).0
+kind_is p (layer.Pointer c t) x h f e = pointer_kind c _ x
+kind_is p (layer.Ty::Slice c t) x h f e = slice_kind c _ x
+kind_is p (layer.Array n t) x h f e = (fixed_kinds _ x).1
+kind_is p (layer.Terminated n) x h f e = (fixed_kinds _ x).1
+kind_is p (layer.Optional t) x h f e = (fixed_kinds _ x).2
+kind_is p (layer.ErrorUnion s t) x h f e = ap (λ z. kind ((z ++ 33 ∷ ty_text t) ++ x)) (ty_out s) ∙ union_kind (out-Ty s) (ty_text t) x f
+kind_is p (layer.File path) x h f e = (fixed_kinds _ x).3
+kind_is p (layer.Container d n l) x h f e = headed_kind (decl_text d) _ x h
+kind_is p (layer.Ty::Function ps r) x h f e = (fixed_kinds _ x).4
+kind_is p (layer.UnionTag t) x h f e = (fixed_kinds _ x).5
 
 -- no type begins with a byte that closes a list, nor with these words
 pub kind_none : (y : List ℕ) → (kind (41 ∷ y) ≡ 0) × (kind (125 ∷ y) ≡ 0) × (kind (codes "const " ++ y) ≡ 0) × (kind (codes "generic)" ++ y) ≡ 0)

@@ -7,7 +7,7 @@ use Rattle.std.proofs.lemmas.Fmt.{decimal_is_IsNumeral_wide}
 use Rattle.std.proofs.lemmas.Str.Parse.{digit_from_value}
 use Rattle.type_form.specs.Spelling.{number_text, int_text, is_word_byte, hex_digit, quoted_byte, quoted}
 use Rattle.type_form.specs.Words.{FitsInt}
-use Rattle.type_laws.specs.Fit.{IsNumber}
+use Rattle.type_form.specs.Fit.{IsNumber}
 
 pub and_left : (a b : Bool) → (a && b) ≡ true → a ≡ true
 and_left true b e = refl

@@ -12,7 +12,7 @@ use Rattle.type_form.specs.declared.tree.SimpleTy.TheVariants as simple
 use Rattle.type_form.specs.Tree.{TyLayer, DeclLayer}
 use Rattle.type_form.specs.Spelling.{number_text, name_text, commas, in_parens, arg_text, decl_text, mark_text}
 use Rattle.type_form.proofs.SpellLemmas.{decl_text-Named, decl_text-Comptime, place_text-FileType, mark_text-FileType, place_text-ContainerType, mark_text-ContainerType}
-use Rattle.type_laws.specs.Fit.{Program, IsNumber, IsPath, IsPlace, IsFit, IsFitArg, IsFitDecl, ty_fits, decl_fits, ty_parts, decl_parts}
+use Rattle.type_form.specs.Fit.{Program, IsNumber, IsPath, IsPlace, IsFit, IsFitArg, IsFitDecl, ty_fits, decl_fits, ty_parts, decl_parts}
 use Rattle.type_laws.proofs.Runs.{run_unique, stops}
 use Rattle.type_laws.proofs.Commas.{Items}
 use Rattle.type_laws.proofs.Shapes.{ty_is, decl_is}
@@ -141,11 +141,11 @@ module _ (p : Program) where
       → Spine p (AtDecl (decl.Named c name)) (decl_text (decl.Named c name))
   named_spine n ih c name (layer.File path) e q f small =
       let is : c ≡ ty.File path = ty_is c (layer.File path) e ∙ ty.rolls-File path in
-      let here : ty_fits (layer.File path) = subst ty_fits e (ty_here p c f) in
+      let here : ty_fits p (layer.File path) = subst (ty_fits p) e (ty_here p c f) in
       subst (λ z. Spine p (AtDecl (decl.Named z name)) (decl_text (decl.Named z name))) (sym is) (file_spine path name here)
   named_spine n ih c name (layer.Container d k captures) e q f small =
       let is : c ≡ ty.Container d k captures = ty_is c (layer.Container d k captures) e ∙ ty.rolls-Container d k captures in
-      let here : ty_fits (layer.Container d k captures) = subst ty_fits e (ty_here p c f) in
+      let here : ty_fits p (layer.Container d k captures) = subst (ty_fits p) e (ty_here p c f) in
       let held : ty_parts p (layer.Container d k captures) = subst (ty_parts p) e (ty_held p c f) in
       subst (λ z. Spine p (AtDecl (decl.Named z name)) (decl_text (decl.Named z name))) (sym is)
       (inner_spine n ih d k captures name here held.0 held.1 (subst (λ z. length (decl_text (decl.Named z name)) < suc n) is small))

@@ -6,7 +6,7 @@ use Rattle.type_form.specs.declared.tree.Arg.{Arg}
 use Rattle.type_form.specs.declared.tree.Ty.TheVariants as ty
 use Rattle.type_form.specs.declared.tree.DeclPath.TheVariants as decl
 use Rattle.type_form.specs.Spelling.{number_text, name_text, commas, arg_text, is_word_byte}
-use Rattle.type_laws.specs.Fit.{Program, IsNumber, IsFitArg}
+use Rattle.type_form.specs.Fit.{Program, IsNumber, IsFitArg}
 use Rattle.type_laws.proofs.Runs.{stops, is_digit, number_unique, heads, tails, cut}
 use Rattle.type_laws.proofs.Names.{name_unique, name_comptime}
 use Rattle.type_laws.proofs.Commas.{Items, AreLike, commas_unique}

@@ -12,7 +12,7 @@ use Rattle.type_form.specs.declared.tree.SimpleTy.TheVariants as simple
 use Rattle.type_form.specs.Tree.{TyLayer}
 use Rattle.type_form.specs.Words.{word_of_simple, simple_of_word}
 use Rattle.type_form.specs.Spelling.{number_text, name_text, commas, behind_commas, simple_text, arg_text, decl_text, ty_text, value_text}
-use Rattle.type_laws.specs.Fit.{Program, IsNumber, IsErrorSet, IsFit, IsFitValue, IsFitArg, ty_fits, value_ty, ty_parts}
+use Rattle.type_form.specs.Fit.{Program, IsNumber, IsErrorSet, IsFit, IsFitValue, IsFitArg, ty_fits, value_ty, ty_parts}
 use Rattle.type_laws.proofs.Runs.{stops, is_digit, run_unique, number_unique, number_not, heads, tails, cut}
 use Rattle.type_laws.proofs.Names.{name_unique, name_not}
 use Rattle.type_laws.proofs.Commas.{Items, AreLike, commas_unique, goes_on}
@@ -20,7 +20,7 @@ use Rattle.type_laws.proofs.Shapes.{ty_shape, ty_out, ty_same}
 use Rattle.type_laws.proofs.Parts.{ty_held, ty_here}
 use Rattle.type_laws.proofs.Ends.{Ends, ends_path, ends_digit, ends_word, goes_round, goes_brace}
 use Rattle.type_laws.proofs.Ends.Ends.{nothing, comma, round, equals, brace, square}
-use Rattle.type_laws.proofs.HeadBytes.{kind, kind_of, kind_is, kind_none, kind_some, IsHeadedIn}
+use Rattle.type_laws.proofs.HeadBytes.{kind, kind_of, kind_is, kind_none, kind_some, width_number, IsHeadedIn}
 use Rattle.type_laws.proofs.Steps.{AnyTwo}
 use Rattle.type_laws.proofs.Steps.Place.{AtDecl}
 use Rattle.type_laws.proofs.Spines.{container_place, container_of, container_is, container_spine, decl_spine, spine_headed, spine_unique}
@@ -176,7 +176,7 @@ UniqueTypes p n = (t u : Ty) (x y : List ℕ) → IsFit p t → IsFit p u → le
 -- and each value
 pub record Unique (p : Program) (n : ℕ) : Type 0 where
   pub ty : UniqueTypes p n
-  pub value : (v w : Value) (x y : List ℕ) → IsFitValue p v → IsFitValue p w → value_ty v ≡ value_ty w → length (value_text v) < n → Ends x → Ends y
+  pub value : (v w : Value) (x y : List ℕ) → IsFitValue p v → IsFitValue p w → value_ty p v ≡ value_ty p w → length (value_text v) < n → Ends x → Ends y
       → value_text v ++ x ≡ value_text w ++ y → (v ≡ w) × (x ≡ y)
 
 abbrev pub AnyTys : Ty → Ty → Type 0
@@ -194,7 +194,7 @@ module _ (p : Program) where
   layer_headed _ h = tt
 
   pub ty_kind : (t : Ty) (x : List ℕ) → IsFit p t → Ends x → kind (ty_text t ++ x) ≡ kind_of (out-Ty t)
-  ty_kind t x f e = ap (λ z. kind (z ++ x)) (ty_out t) ∙ kind_is (out-Ty t) x (layer_headed (out-Ty t) (ty_held p t f)) (ty_here p t f) e
+  ty_kind t x f e = ap (λ z. kind (z ++ x)) (ty_out t) ∙ kind_is p (out-Ty t) x (layer_headed (out-Ty t) (ty_held p t f)) (ty_here p t f) e
 
   -- no type begins so
   pub ty_not : (t : Ty) (x z : List ℕ) → IsFit p t → Ends x → kind z ≡ 0 → ty_text t ++ x ≡ z → ⊥
@@ -245,7 +245,7 @@ module _ (p : Program) (n : ℕ) (known : Unique p n) (items : Items arg_text (I
   set_not l s t x y f g a e =
       no_bang x (ty_text t ++ y) a (set_unique l (out-Ty s) x (33 ∷ (ty_text t ++ y)) f g (e ∙ append_assoc (ty_text s) (33 ∷ ty_text t) y ∙ ap (λ z. z ++ 33 ∷ (ty_text t ++ y)) (ty_out s))).1
 
-  container_unique : (c d : DeclPath) (m k : ℕ) (xs ys : List Arg) (x y : List ℕ) → ty_fits (layer.Container c m xs) → ty_fits (layer.Container d k ys) → ty_parts p (layer.Container c m xs) → ty_parts p (layer.Container d k ys)
+  container_unique : (c d : DeclPath) (m k : ℕ) (xs ys : List Arg) (x y : List ℕ) → ty_fits p (layer.Container c m xs) → ty_fits p (layer.Container d k ys) → ty_parts p (layer.Container c m xs) → ty_parts p (layer.Container d k ys)
       → length (ty_shape (layer.Container c m xs)) < suc n → Ends x → Ends y
       → ty_shape (layer.Container c m xs) ++ x ≡ ty_shape (layer.Container d k ys) ++ y → IsSame (layer.Container c m xs) (layer.Container d k ys) x y
   container_unique c d m k xs ys x y f g h j small a b e =
@@ -272,13 +272,13 @@ module _ (p : Program) (n : ℕ) (known : Unique p n) (items : Items arg_text (I
       generic_not qs s x y f (cut (codes "fn(") (codes "generic)" ++ x) ((commas (map ty_text qs) ++ (41 ∷ ty_text s)) ++ y) text ∙ append_assoc (commas (map ty_text qs)) (41 ∷ ty_text s) y)
 
   -- one layer
-  layer_unique : (l m : TyLayer) (x y : List ℕ) → kind_of l ≡ kind_of m → ty_fits l → ty_fits m → ty_parts p l → ty_parts p m → length (ty_shape l) < suc n → Ends x → Ends y
+  layer_unique : (l m : TyLayer) (x y : List ℕ) → kind_of l ≡ kind_of m → ty_fits p l → ty_fits p m → ty_parts p l → ty_parts p m → length (ty_shape l) < suc n → Ends x → Ends y
       → ty_shape l ++ x ≡ ty_shape m ++ y → (l ≡ m) × (x ≡ y)
   layer_unique (layer.Ty::Simple s) (layer.Ty::Simple t) x y k f g h j small a b e = let r = simple_unique s t x y e in (ap layer.Ty::Simple r.0, r.1)
   layer_unique (layer.Ty::Simple s) (layer.Ty::Function qs t) x y k f g h j small a b e = absurd (function_not s qs t x y j.0 e)
   layer_unique (layer.Ty::Function ps r) (layer.Ty::Simple t) x y k f g h j small a b e = absurd (function_not t ps r y x h.0 (sym e))
   layer_unique (layer.Ty::Function ps r) (layer.Ty::Function qs t) x y k f g h j small a b e = params_unique ps qs r t x y h.0 j.0 h.1 j.1 small a b e
-  layer_unique (layer.Ty::Int s l) (layer.Ty::Int t m) x y k f g h j small a b e = int_unique s t l m x y f g a b e
+  layer_unique (layer.Ty::Int s l) (layer.Ty::Int t m) x y k f g h j small a b e = int_unique s t l m x y (width_number l f.1) (width_number m g.1) a b e
   layer_unique (layer.ErrorSet xs) (layer.ErrorSet ys) x y k f g h j small a b e = set_unique (layer.ErrorSet xs) (layer.ErrorSet ys) x y tt tt e
   layer_unique (layer.ErrorSet xs) (layer.ErrorUnion s t) x y k f g h j small a b e = absurd (set_not (layer.ErrorSet xs) s t x y tt g a e)
   layer_unique (layer.ErrorUnion s t) (layer.ErrorSet ys) x y k f g h j small a b e = absurd (set_not (layer.ErrorSet ys) s t y x tt f b (sym e))
@@ -304,6 +304,11 @@ module _ (p : Program) (n : ℕ) (known : Unique p n) (items : Items arg_text (I
   layer_unique (layer.Optional t) (layer.Optional u) x y k f g h j small a b e =
       let r = known.ty t u x y h j (omega (arith, small)) a b (tails 63 63 _ _ e) in
       (ap layer.Optional r.0, r.1)
+  layer_unique (layer.UnionTag t) (layer.UnionTag u) x y k f g h j small a b e =
+      let size = length-append (ty_text t) (41 ∷ []) in
+      let r = known.ty t u (41 ∷ x) (41 ∷ y) h j (omega (arith, small, size)) (round x) (round y)
+      (sym (append_assoc (ty_text t) (41 ∷ []) x) ∙ cut (codes "@tag(") ((ty_text t ++ 41 ∷ []) ++ x) ((ty_text u ++ 41 ∷ []) ++ y) e ∙ append_assoc (ty_text u) (41 ∷ []) y) in
+      (ap layer.UnionTag r.0, tails 41 41 x y r.1)
   layer_unique (layer.File s) (layer.File t) x y k f g h j small a b e =
       let r = run_unique is_path_byte s t x y f g (ends_path x a) (ends_path y b) (cut (codes "@:") (s ++ x) (t ++ y) e) in
       (ap layer.File r.0, r.1)

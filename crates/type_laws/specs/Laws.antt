@@ -7,7 +7,7 @@ use Rattle.type_form.specs.declared.tree.Arg.{Arg, out-Arg}
 use Rattle.type_form.specs.declared.unit.Instance.{Instance}
 use Rattle.type_form.specs.declared.unit.Unit.{Unit as AnyUnit}
 use Rattle.type_form.specs.Spelling.{ty_text, value_text, decl_text, arg_text, instance_text, unit_text}
-use Rattle.type_laws.specs.Fit.{Program, IsFit, IsFitValue, IsFitDecl, IsFitArg, IsFitInstance, IsFitUnit, value_ty, ty_fits, decl_fits, value_fits, ty_parts, decl_parts, value_parts, arg_parts}
+use Rattle.type_form.specs.Fit.{Program, IsFit, IsFitValue, IsFitDecl, IsFitArg, IsFitInstance, IsFitUnit, value_ty, ty_fits, decl_fits, value_fits, arg_fits, ty_parts, decl_parts, value_parts, arg_parts}
 
 -- of types
 abbrev pub EqualTypes : Type 0
@@ -23,7 +23,7 @@ EqualUnits = (p : Program) (u v : AnyUnit) → IsFitUnit p u → IsFitUnit p v �
 
 -- of values that have one type, which their spelling leaves out
 abbrev pub EqualValues : Type 0
-EqualValues = (p : Program) (v w : Value) → IsFitValue p v → IsFitValue p w → value_ty v ≡ value_ty w → value_text v ≡ value_text w → v ≡ w
+EqualValues = (p : Program) (v w : Value) → IsFitValue p v → IsFitValue p w → value_ty p v ≡ value_ty p w → value_text v ≡ value_text w → v ≡ w
 
 -- of declarations
 abbrev pub EqualDeclarations : Type 0
@@ -35,7 +35,7 @@ EqualInstances = (p : Program) (i j : Instance) → IsFitInstance p i → IsFitI
 
 -- a tree is fit exactly where its outer layer is well formed and the parts of this layer are fit
 abbrev pub TypesByLayers : Type 0
-TypesByLayers = (p : Program) (t : Ty) → IsFit p t ↔ (ty_fits (out-Ty t) × ty_parts p (out-Ty t))
+TypesByLayers = (p : Program) (t : Ty) → IsFit p t ↔ (ty_fits p (out-Ty t) × ty_parts p (out-Ty t))
 
 abbrev pub ValuesByLayers : Type 0
 ValuesByLayers = (p : Program) (v : Value) → IsFitValue p v ↔ (value_fits p (out-Value v) × value_parts p (out-Value v))
@@ -44,4 +44,4 @@ abbrev pub PathsByLayers : Type 0
 PathsByLayers = (p : Program) (d : DeclPath) → IsFitDecl p d ↔ (decl_fits (out-DeclPath d) × decl_parts p (out-DeclPath d))
 
 abbrev pub ArgumentsByLayers : Type 0
-ArgumentsByLayers = (p : Program) (a : Arg) → IsFitArg p a ↔ arg_parts p (out-Arg a)
+ArgumentsByLayers = (p : Program) (a : Arg) → IsFitArg p a ↔ (arg_fits p (out-Arg a) × arg_parts p (out-Arg a))

@@ -1,3 +1,2 @@
 pub mod Doubles
-pub mod Fit
 pub mod Laws

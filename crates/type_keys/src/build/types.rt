@@ -1,7 +1,7 @@
 // One call for each kind of type.
-ghost use Rattle.std.specs.Prelude.{IfOk};
+ghost use Rattle.std.specs.Prelude.{◌≤◌, IfOk};
 ghost use Rattle.type_form.specs.Known.{Known, IsInjective};
-ghost use Rattle.type_form.specs.Means.{AreArgs, AreLists, AreTys, DenotesTy, IsDecl, IsList, IsTy, args_at, decl_at, list_at, lists_at, ty_at, tys_at};
+ghost use Rattle.type_form.specs.Means.{AreArgs, AreNames, AreTys, DenotesTy, IsDecl, IsBytes, IsTy, args_at, bytes_at, decl_at, names_at, ty_at, tys_at};
 ghost use Rattle.type_form.specs.Pool.{Interns, is_full};
 ghost use Rattle.type_form.specs.declared.tree.Ty.TheVariants as ty;
 
@@ -19,6 +19,8 @@ pub fn simple_type<I: Interner>(simple: SimpleTy, p: &mut I) -> Result<Index, In
 
 /// An integer type.
 pub fn int_type<I: Interner>(is_signed: bool, bits: u32, p: &mut I) -> Result<Index, InternFault>
+    requires some { 1 ≤ bits }
+    requires few { bits ≤ 64 }
     ensures interns { Interns I.known I.home I.fulls p.old p.new (is_full result) }
     ensures agrees { IsInjective (I.known p.new) }
     ensures ty { IfOk result (λ i. DenotesTy (I.known p.new) i (ty.Int is_signed bits)) }
@@ -28,10 +30,10 @@ pub fn int_type<I: Interner>(is_signed: bool, bits: u32, p: &mut I) -> Result<In
 
 /// An error set, by the list of its names, which are lists of bytes in byte order, each once.
 pub fn error_set_type<I: Interner>(names: Index, p: &mut I) -> Result<Index, InternFault>
-    requires { AreLists (I.known p.old) names }
+    requires { AreNames (I.known p.old) names }
     ensures interns { Interns I.known I.home I.fulls p.old p.new (is_full result) }
     ensures agrees { IsInjective (I.known p.new) }
-    ensures ty { IfOk result (λ i. DenotesTy (I.known p.new) i (ty.ErrorSet (lists_at (I.known p.old) names))) }
+    ensures ty { IfOk result (λ i. DenotesTy (I.known p.new) i (ty.ErrorSet (names_at (I.known p.old) names))) }
 {
     intern_key(&Key::ErrorSetType { names }, p)
 }
@@ -110,10 +112,10 @@ pub fn error_union_type<I: Interner>(
 
 /// A file as a type, by the list of its path's bytes.
 pub fn file_type<I: Interner>(path: Index, p: &mut I) -> Result<Index, InternFault>
-    requires { IsList (I.known p.old) path }
+    requires { IsBytes (I.known p.old) path }
     ensures interns { Interns I.known I.home I.fulls p.old p.new (is_full result) }
     ensures agrees { IsInjective (I.known p.new) }
-    ensures ty { IfOk result (λ i. DenotesTy (I.known p.new) i (ty.File (list_at (I.known p.old) path))) }
+    ensures ty { IfOk result (λ i. DenotesTy (I.known p.new) i (ty.File (bytes_at (I.known p.old) path))) }
 {
     intern_key(&Key::FileType { path }, p)
 }
@@ -160,4 +162,14 @@ pub fn function_type<I: Interner>(
         },
         p,
     )
+}
+
+/// The own enum of a union, by the union's type.
+pub fn union_tag_type<I: Interner>(union_ty: Index, p: &mut I) -> Result<Index, InternFault>
+    requires { IsTy (I.known p.old) union_ty }
+    ensures interns { Interns I.known I.home I.fulls p.old p.new (is_full result) }
+    ensures agrees { IsInjective (I.known p.new) }
+    ensures ty { IfOk result (λ i. DenotesTy (I.known p.new) i (ty.UnionTag (ty_at (I.known p.old) union_ty))) }
+{
+    intern_key(&Key::UnionTagType { union_ty }, p)
 }

@@ -13,13 +13,13 @@ rejoined xs a b e =
 pub loop-chunks-preserved : goal.loop-chunks-preserved
 loop-chunks-preserved g c =
     let i = c.loop-chunks.invariant in
-    let d = c.in_ok-list-2.ensures.list in
+    let d = c.in_ok-list-2.ensures.bytes in
     record {
-      interns = Interns-then i.interns (rw c.in_ok-list-2.was at c.longer_list.ensures.interns);
-      agrees = c.longer_list.ensures.agrees;
-      list = record {
+      interns = Interns-then i.interns (rw c.in_ok-list-2.was at c.longer_bytes.ensures.interns);
+      agrees = c.longer_bytes.ensures.agrees;
+      bytes = record {
         known = d.known;
-        is = d.is ∙ ap₂ (λ xs ys. xs ++ ys) c.of_bytes-chunk.ensures i.list.is
+        is = d.is ∙ ap (λ ys. take ((c.loop-chunks.chunks - 1) * 60 + 60 - (c.loop-chunks.chunks - 1) * 60) (drop ((c.loop-chunks.chunks - 1) * 60) c.args.bytes.now) ++ ys) i.bytes.is
             ∙ rejoined c.args.bytes.now ((c.loop-chunks.chunks - 1) * 60) (c.loop-chunks.chunks * 60) (omega (arith, c.loop-chunks-test.true));
       };
       room = λ h. omega (arith, i.room c.loop-chunks-test.true, c.loop-chunks-test.true);

@@ -1,6 +1,6 @@
 use Rattle.std.proofs.Common.{◌*◌, ◌<◌, false, drop, length}
 use Rattle.type_form.specs.Known.{IsInjective}
-use Rattle.type_form.specs.Means.{DenotesList}
+use Rattle.type_form.specs.Means.{DenotesBytes}
 use Rattle.type_form.specs.Pool.{Interns}
 use Rattle.type_keys.proofs.lists.intern_bytes.Given as goal
 
@@ -11,7 +11,7 @@ invariant-loop-chunks g l =
     record {
       interns : Interns known g.I.Keys.home g.I.Keys.fulls l.fn.p l.p false;
       agrees : IsInjective (known l.p);
-      list : DenotesList (known l.p) l.list (drop (l.chunks * 60) l.bytes);
+      bytes : DenotesBytes (known l.p) l.list (drop (l.chunks * 60) l.bytes);
       room : 0 < l.chunks → l.chunks * 60 < length l.bytes;
     }
 

@@ -4,21 +4,22 @@ use Rattle.type_form.specs.Known.{words_at}
 use Rattle.type_form.specs.Words.{index_of}
 use Rattle.type_form.specs.Denote.{denoted}
 use Rattle.pool_shard.specs.Pairs.{known}
-use Rattle.pool_seat.specs.Roles.{role_at}
+use Rattle.type_form.specs.Roles.{role_at}
 use Rattle.pool_seat.specs.Reach.{Reached}
-use Rattle.pool_seat.specs.declared.roles.Role.TheVariants as role
+use Rattle.type_form.specs.declared.roles.Role.TheVariants as role
 use Rattle.pool_seat.specs.declared.mover.Mover.{Mover}
 use Rattle.pool_seat.specs.Moves.{Pairs, Becomes, IsNewKey}
 use Rattle.pool_seat.specs.Order.{added, olds}
 use Rattle.pool_seat.specs.Movers.{Needs, WordBecomes, WordNeeds, WordReached, HasRow, IsChain, work, word_work, Later, HasTree, HasParts, AddsTree, AddsParts, WordAdds}
 use Rattle.pool_seat.proofs.Moving.{denoted_words, Later-trans, Later-known, new_key_later}
 use Rattle.pool_seat.proofs.Depths.{some_of}
-use Rattle.pool_seat.proofs.RowMoves.{needs_some, rest_role, row_starts, row_fits, chain_needs, chain_pop, chain_reached, word_reached}
+use Rattle.type_form.proofs.PartLemmas.{rest_role}
+use Rattle.pool_seat.proofs.RowMoves.{needs_some, row_starts, row_fits, chain_needs, chain_pop, chain_reached, word_reached}
 use Rattle.pool_seat.proofs.RowResults.{WordBecomes-later, row_means, push_before, push_last, word_behind, starts, key_done}
 use Rattle.pool_seat.proofs.Ordering.{tree_later, tree_added, parts_added, tree_there, parts_listed, parts_noted, chain_adds, WordsAdd, no_words, more_words, all_words}
 use Rattle.pool_seat.proofs.mover.Mover.+walk.Goals as goal
 
-same_rest : (o : Option (List ℕ)) (a b : ℕ) (us ws : List ℕ) → o ≡ Some (31 ∷ a ∷ us) → o ≡ Some (31 ∷ b ∷ ws) → a ≡ b
+same_rest : (o : Option (List ℕ)) (a b : ℕ) (us ws : List ℕ) → o ≡ Some (37 ∷ a ∷ us) → o ≡ Some (37 ∷ b ∷ ws) → a ≡ b
 same_rest o a b us ws e f = cc
 
 pub chunk-returns-else-of_parts-clause-later : goal.chunk-returns-else-of_parts-clause-later
@@ -75,7 +76,7 @@ visit-chunk-requires t c =
     let reached : Reached (known c.last_of.new.self.from) c.last_of.new.self.live.now c.args.of_parts c.in_ok-last.last = subst (λ x. Reached x c.last_of.new.self.live.now c.args.of_parts c.in_ok-last.last) (sym e) (subst (λ y. Reached k y.now c.args.of_parts c.in_ok-last.last) (sym c.last_of.ensures.later.live)
     (chain_reached k c.args.self.now.live.now c.args.of_parts c.args.i c.last_of.new.chunks.items c.in_ok-last.last c.in_ok-last.ensures.chain c.requires.reached)) in
     let below : 4 * work k c.args.of_parts c.in_ok-last.last + 2 < t = subst (λ n. 4 * work k c.args.of_parts c.in_ok-last.last + 2 < n) c.decreases (omega arith) in
-    (subst (λ x. 4 * work x c.args.of_parts c.in_ok-last.last + 2 < t) (sym e) below, (c.last_of.ensures.mover, (subst (λ x. Needs x c.args.of_parts c.in_ok-last.last) (sym e) g.0, (reached, (λ x ns w. absurd (c.in_ok-last.ensures.last x ns (subst (λ y. words_at y (index_of c.in_ok-last.last) ≡ Some (31 ∷ x ∷ ns)) e w)), λ x ns w. absurd (c.in_ok-last.ensures.last x ns (subst (λ y. words_at y (index_of c.in_ok-last.last) ≡ Some (31 ∷ x ∷ ns)) e w)))))))
+    (subst (λ x. 4 * work x c.args.of_parts c.in_ok-last.last + 2 < t) (sym e) below, (c.last_of.ensures.mover, (subst (λ x. Needs x c.args.of_parts c.in_ok-last.last) (sym e) g.0, (reached, (λ x ns w. absurd (c.in_ok-last.ensures.last x ns (subst (λ y. words_at y (index_of c.in_ok-last.last) ≡ Some (37 ∷ x ∷ ns)) e w)), λ x ns w. absurd (c.in_ok-last.ensures.last x ns (subst (λ y. words_at y (index_of c.in_ok-last.last) ≡ Some (37 ∷ x ∷ ns)) e w)))))))
 
 pub visit-returns-in_err-new-clause-later : goal.visit-returns-in_err-new-clause-later
 visit-returns-in_err-new-clause-later t c = Later-trans c.args.self.now c.last_of.new.self c.chunk.new.self c.last_of.ensures.later c.chunk.ensures.later
@@ -105,10 +106,10 @@ visit-chunk-requires-in-Some t c =
     let reached : Reached (known c.loop-chunk.self.from) c.loop-chunk.self.live.now c.args.of_parts c.in-Some.chunk = subst (λ x. Reached x c.loop-chunk.self.live.now c.args.of_parts c.in-Some.chunk) (sym e) (subst (λ y. Reached k y.now c.args.of_parts c.in-Some.chunk) (sym v.later.live)
     (chain_reached k c.args.self.now.live.now c.args.of_parts c.args.i c.pop.new.self.items c.in-Some.chunk p.0 c.requires.reached)) in
     let below : 4 * work k c.args.of_parts c.in-Some.chunk + 2 < t = subst (λ n. 4 * work k c.args.of_parts c.in-Some.chunk + 2 < n) c.decreases (omega arith) in
-    let rest : (x : ℕ) (ns : List ℕ) → words_at (known c.loop-chunk.self.from) (index_of c.in-Some.chunk) ≡ Some (31 ∷ x ∷ ns) → Becomes (known c.loop-chunk.self.from) (known c.loop-chunk.self.to) c.loop-chunk.self.moved.items c.args.of_parts x c.loop-chunk.new =
-    λ x ns w. subst (λ n. Becomes (known c.loop-chunk.self.from) (known c.loop-chunk.self.to) c.loop-chunk.self.moved.items c.args.of_parts n c.loop-chunk.new) (same_rest (words_at k (index_of c.in-Some.chunk)) v.end x p.1 ns p.2 (subst (λ y. words_at y (index_of c.in-Some.chunk) ≡ Some (31 ∷ x ∷ ns)) e w)) v.done in
-    let tree : (x : ℕ) (ns : List ℕ) → words_at (known c.loop-chunk.self.from) (index_of c.in-Some.chunk) ≡ Some (31 ∷ x ∷ ns) → HasTree (known c.loop-chunk.self.from) c.loop-chunk.self.moved.items c.args.of_parts x =
-    λ x ns w. subst (λ n. HasTree (known c.loop-chunk.self.from) c.loop-chunk.self.moved.items c.args.of_parts n) (same_rest (words_at k (index_of c.in-Some.chunk)) v.end x p.1 ns p.2 (subst (λ y. words_at y (index_of c.in-Some.chunk) ≡ Some (31 ∷ x ∷ ns)) e w))
+    let rest : (x : ℕ) (ns : List ℕ) → words_at (known c.loop-chunk.self.from) (index_of c.in-Some.chunk) ≡ Some (37 ∷ x ∷ ns) → Becomes (known c.loop-chunk.self.from) (known c.loop-chunk.self.to) c.loop-chunk.self.moved.items c.args.of_parts x c.loop-chunk.new =
+    λ x ns w. subst (λ n. Becomes (known c.loop-chunk.self.from) (known c.loop-chunk.self.to) c.loop-chunk.self.moved.items c.args.of_parts n c.loop-chunk.new) (same_rest (words_at k (index_of c.in-Some.chunk)) v.end x p.1 ns p.2 (subst (λ y. words_at y (index_of c.in-Some.chunk) ≡ Some (37 ∷ x ∷ ns)) e w)) v.done in
+    let tree : (x : ℕ) (ns : List ℕ) → words_at (known c.loop-chunk.self.from) (index_of c.in-Some.chunk) ≡ Some (37 ∷ x ∷ ns) → HasTree (known c.loop-chunk.self.from) c.loop-chunk.self.moved.items c.args.of_parts x =
+    λ x ns w. subst (λ n. HasTree (known c.loop-chunk.self.from) c.loop-chunk.self.moved.items c.args.of_parts n) (same_rest (words_at k (index_of c.in-Some.chunk)) v.end x p.1 ns p.2 (subst (λ y. words_at y (index_of c.in-Some.chunk) ≡ Some (37 ∷ x ∷ ns)) e w))
     (subst (λ y. HasTree y c.loop-chunk.self.moved.items c.args.of_parts v.end) (sym e) (tree_added k c.args.of_parts v.end c.args.self.now.moved.items c.loop-chunk.self.moved.items v.adds)) in
     (subst (λ x. 4 * work x c.args.of_parts c.in-Some.chunk + 2 < t) (sym e) below, (v.mover, (subst (λ x. Needs x c.args.of_parts c.in-Some.chunk) (sym e) g.0, (reached, (rest, tree)))))
 
@@ -133,14 +134,14 @@ word-find-requires t c =
     record { mover = c.requires.mover; inside = c.requires.mover.inside (index_of c.args.word) (denoted_words (known c.args.self.now.from) (index_of c.args.word) s.0 s.1) }
 
 -- the rest of a list stands first behind its kind
-rest_tree : (m n : Mover) (b : Bool) (i : ℕ) (words : List ℕ) (p : ℕ) → Later m n → Needs (known m.from) b i → words_at (known m.from) (index_of i) ≡ Some words → p < length (drop 1 words) → ((x : ℕ) (us : List ℕ) → words_at (known m.from) (index_of i) ≡ Some (31 ∷ x ∷ us) → HasTree (known m.from) m.moved.items b x) → role_at (slice_index words 0) b p ≡ role.Rest → HasTree (known m.from) n.moved.items b (slice_index (drop 1 words) p)
+rest_tree : (m n : Mover) (b : Bool) (i : ℕ) (words : List ℕ) (p : ℕ) → Later m n → Needs (known m.from) b i → words_at (known m.from) (index_of i) ≡ Some words → p < length (drop 1 words) → ((x : ℕ) (us : List ℕ) → words_at (known m.from) (index_of i) ≡ Some (37 ∷ x ∷ us) → HasTree (known m.from) m.moved.items b x) → role_at (slice_index words 0) b p ≡ role.Rest → HasTree (known m.from) n.moved.items b (slice_index (drop 1 words) p)
 rest_tree m n b i words p later needs w l tree r =
     let q = rest_role (slice_index words 0) b p r in
     let ws : List ℕ = drop 1 words in
     let a : words ≡ slice_index words 0 ∷ ws = row_starts (known m.from) i words (needs_some (known m.from) b i needs) w in
     let z : p ≡ 0 = q.1 in
     let c : ws ≡ slice_index ws 0 ∷ drop 1 ws = starts ws (omega (arith, l, z)) in
-    let d : words ≡ 31 ∷ slice_index ws 0 ∷ drop 1 ws = a ∙ ap₂ (λ (x : ℕ) (xs : List ℕ). x ∷ xs) q.0 c in
+    let d : words ≡ 37 ∷ slice_index ws 0 ∷ drop 1 ws = a ∙ ap₂ (λ (x : ℕ) (xs : List ℕ). x ∷ xs) q.0 c in
     subst (λ x. HasTree (known m.from) n.moved.items b (slice_index ws x)) (sym z) (tree_later (known m.from) m.moved.items n.moved.items b (slice_index ws 0) later.moved (tree (slice_index ws 0) (drop 1 ws) (w ∙ ap Some d)))
 
 pub row-loop-at-init : goal.row-loop-at-init

@@ -1,6 +1,6 @@
 use Rattle.std.proofs.Common.{◌≡◌, ℕ, ◌+◌, ◌*◌, ◌-◌, ◌<◌, length, slice_index, drop}
 use Rattle.pool_shard.specs.Pairs.{known}
-use Rattle.pool_seat.specs.Roles.{role_at}
+use Rattle.type_form.specs.Roles.{role_at}
 use Rattle.pool_seat.specs.Moves.{Becomes}
 use Rattle.pool_seat.specs.Movers.{WordBecomes, work, word_work, IsChain, Later, AddsTree, IsMover}
 use Rattle.pool_seat.proofs.Ordering.{WordsAdd}

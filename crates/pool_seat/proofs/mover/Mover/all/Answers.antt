@@ -6,7 +6,8 @@ use Rattle.type_form.specs.Words.{index_of}
 use Rattle.type_form.specs.Denote.{denoted}
 use Rattle.pool_words.specs.Rule.{In}
 use Rattle.pool_shard.specs.Pairs.{known}
-use Rattle.pool_seat.specs.Reach.{Reached, Live}
+use Rattle.type_form.specs.Reach.{Live}
+use Rattle.pool_seat.specs.Reach.{Reached}
 use Rattle.pool_seat.specs.Moves.{IsMoved}
 use Rattle.pool_seat.specs.Movers.{AddsTree, AddsAll}
 use Rattle.pool_seat.proofs.Moving.{Later-trans, Later-known}

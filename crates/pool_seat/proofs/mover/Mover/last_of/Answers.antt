@@ -10,7 +10,7 @@ use Rattle.pool_seat.proofs.RowMoves.{row_starts, list_starts, rest_less, chain_
 use Rattle.pool_seat.proofs.mover.Mover.last_of.Goals as goal
 
 -- the row that was read, which is a list with a rest
-rest_read : (k : Known) (at : ℕ) (ws read : List ℕ) → IsSome (denoted k (index_of at)) → words_at k (index_of at) ≡ Some ws → read ≡ ws → slice_index read 0 ≡ 31 → (x : ℕ) × (us : List ℕ) × (read ≡ 31 ∷ x ∷ us) × (words_at k (index_of at) ≡ Some (31 ∷ x ∷ us))
+rest_read : (k : Known) (at : ℕ) (ws read : List ℕ) → IsSome (denoted k (index_of at)) → words_at k (index_of at) ≡ Some ws → read ≡ ws → slice_index read 0 ≡ 37 → (x : ℕ) × (us : List ℕ) × (read ≡ 37 ∷ x ∷ us) × (words_at k (index_of at) ≡ Some (37 ∷ x ∷ us))
 rest_read k at ws read some w e first = let m = list_starts k at ws some w (ap (λ (us : List ℕ). slice_index us 0) (sym e) ∙ first) in (m.0, m.1, e ∙ m.2, w ∙ ap Some m.2)
 
 pub read-requires-clause-known : goal.read-requires-clause-known
@@ -26,8 +26,8 @@ bounds-words-0 c =
     let e = row_starts (known c.args.self.now.from) c.loop-words.at c.read.new.into v.there w in
     subst (λ (ws : List ℕ). 0 < length ws) (sym (c.as_slice-words.ensures.value ∙ e)) (omega arith)
 
-pub returns-then-words-ne31-clause-later : goal.returns-then-words-ne31-clause-later
-returns-then-words-ne31-clause-later c = Later-trans c.args.self.now c.loop-words.self c.read.new.self c.loop-words.invariant.later c.read.ensures.later
+pub returns-then-words-ne37-clause-later : goal.returns-then-words-ne37-clause-later
+returns-then-words-ne37-clause-later c = Later-trans c.args.self.now c.loop-words.self c.read.new.self c.loop-words.invariant.later c.read.ensures.later
 
 pub returns-in_default-clause-later : goal.returns-in_default-clause-later
 returns-in_default-clause-later c = Later-trans c.args.self.now c.loop-words.self c.read.new.self c.loop-words.invariant.later c.read.ensures.later
@@ -36,7 +36,7 @@ pub bounds-words-1 : goal.bounds-words-1
 bounds-words-1 c =
     let v = c.loop-words.invariant in
     let w = subst (λ (k : Known). words_at k (index_of c.loop-words.at) ≡ Some c.read.new.into) (Later-known c.args.self.now c.loop-words.self v.later) c.read.ensures.words in
-    let m = rest_read (known c.args.self.now.from) c.loop-words.at c.read.new.into c.as_slice-words.result.now v.there w c.as_slice-words.ensures.value c.if-words-ne31.false in
+    let m = rest_read (known c.args.self.now.from) c.loop-words.at c.read.new.into c.as_slice-words.result.now v.there w c.as_slice-words.ensures.value c.if-words-ne37.false in
     subst (λ (ws : List ℕ). 1 < length ws) (sym m.2) (omega arith)
 
 pub loop-words-smaller : goal.loop-words-smaller
@@ -44,7 +44,7 @@ loop-words-smaller c =
     let v = c.loop-words.invariant in
     let k = known c.args.self.now.from in
     let w = subst (λ (k : Known). words_at k (index_of c.loop-words.at) ≡ Some c.read.new.into) (Later-known c.args.self.now c.loop-words.self v.later) c.read.ensures.words in
-    let m = rest_read k c.loop-words.at c.read.new.into c.as_slice-words.result.now v.there w c.as_slice-words.ensures.value c.if-words-ne31.false in
+    let m = rest_read k c.loop-words.at c.read.new.into c.as_slice-words.result.now v.there w c.as_slice-words.ensures.value c.if-words-ne37.false in
     let l = rest_less k c.loop-words.at m.0 m.1 v.there m.3 in
     subst (λ (ws : List ℕ). height k (slice_index ws 1) < height k c.loop-words.at) (sym m.2) l.1
 
@@ -53,7 +53,7 @@ loop-words-preserved c =
     let v = c.loop-words.invariant in
     let k = known c.args.self.now.from in
     let w = subst (λ (k : Known). words_at k (index_of c.loop-words.at) ≡ Some c.read.new.into) (Later-known c.args.self.now c.loop-words.self v.later) c.read.ensures.words in
-    let m = rest_read k c.loop-words.at c.read.new.into c.as_slice-words.result.now v.there w c.as_slice-words.ensures.value c.if-words-ne31.false in
+    let m = rest_read k c.loop-words.at c.read.new.into c.as_slice-words.result.now v.there w c.as_slice-words.ensures.value c.if-words-ne37.false in
     let l = rest_less k c.loop-words.at m.0 m.1 v.there m.3 in
     record {
       mover = c.read.ensures.mover;
@@ -63,8 +63,8 @@ loop-words-preserved c =
       chain = subst (λ (ws : List ℕ). IsChain k c.args.i c.push.new.self.items (slice_index ws 1)) (sym m.2) (subst (λ (cs : List ℕ). IsChain k c.args.i cs m.0) (sym c.in-Ok.ensures.items) (chain_push k c.args.i c.loop-words.chunks.items c.loop-words.at m.0 m.1 v.chain m.3));
     }
 
-pub returns-then-words-ne31-clause-same : goal.returns-then-words-ne31-clause-same
-returns-then-words-ne31-clause-same c = c.read.ensures.same ∙ c.loop-words.invariant.same
+pub returns-then-words-ne37-clause-same : goal.returns-then-words-ne37-clause-same
+returns-then-words-ne37-clause-same c = c.read.ensures.same ∙ c.loop-words.invariant.same
 
 pub returns-in_default-clause-same : goal.returns-in_default-clause-same
 returns-in_default-clause-same c = c.read.ensures.same ∙ c.loop-words.invariant.same

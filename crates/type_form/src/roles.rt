@@ -1,12 +1,12 @@
 // What the words of a key are: numbers, or indices of what.
 ghost use Rattle.std.specs.Prelude.{◌≡◌};
-ghost use Rattle.pool_seat.specs.Roles.{roles_of, role_at};
+ghost use Rattle.type_form.specs.Roles.{roles_of, role_at};
 
 use Role::{List, Number, Part, Rest};
 
 /// What a word of a key is, behind the number of the key's kind.
-#[derive(Clone, Copy)]
-pub(crate) enum Role {
+#[derive(Clone, Copy, Debug, PartialEq, Eq)]
+pub enum Role {
     /// A number as such.
     Number,
     /// The index of a type, a value, a declaration, an instance or a list of numbers.
@@ -33,21 +33,27 @@ fn roles_of(kind: u64) -> [Role; 4]
         12 => [List, Part, Number, Number],
         13 => [Part, Number, Number, Number],
         14 => [Part, Number, Number, Number],
-        15 => [Part, Part, Number, Number],
+        15 => [Part, Number, Number, Number],
         16 => [Part, Part, Number, Number],
         17 => [Part, Part, Number, Number],
         18 => [Part, Part, Number, Number],
-        19 => [Part, List, Number, Number],
-        20 => [Part, Part, Number, Number],
-        21 => [Part, Part, Part, Number],
-        22 => [Part, Number, Number, Number],
-        23 => [Part, Part, Number, Number],
-        24 => [Part, Part, Number, Number],
+        19 => [Part, Part, Number, Number],
+        20 => [Part, List, Number, Number],
+        21 => [Part, Part, Number, Number],
+        22 => [Part, Part, Part, Number],
+        23 => [Part, Number, Number, Number],
+        24 => [Part, Number, Number, Number],
         25 => [Part, Part, Number, Number],
         26 => [Part, Part, Number, Number],
-        27 => [Part, Part, Number, Number],
-        28 => [Part, Number, Number, Number],
-        29 => [Part, List, Number, Number],
+        27 => [Part, Number, Number, Number],
+        28 => [Part, Part, Number, Number],
+        29 => [Part, Part, Number, Number],
+        30 => [Part, Part, Number, Number],
+        31 => [Part, Number, Number, Number],
+        32 => [Part, Number, Number, Number],
+        33 => [Part, Part, Number, Number],
+        34 => [Part, Number, Number, Number],
+        35 => [Part, List, Number, Number],
         _ => [Number, Number, Number, Number],
     }
 }
@@ -55,13 +61,13 @@ fn roles_of(kind: u64) -> [Role; 4]
 /// What a word of a key is, by its place behind the kind. The numbers of a list are indices where
 /// it is one of parts.
 #[tactic(auto, unfolding(crate::specs::Roles::role_at))]
-pub(crate) fn role_of(kind: u64, of_parts: bool, at: usize) -> Role
+pub fn role_of(kind: u64, of_parts: bool, at: usize) -> Role
     ensures { result ≡ role_at kind of_parts at }
 {
-    if kind < 30 {
+    if kind < 36 {
         let roles = roles_of(kind);
         if at < 4 { roles[at] } else { Number }
-    } else if kind == 31 && at == 0 {
+    } else if kind == 37 && at == 0 {
         Rest
     } else if of_parts {
         Part
