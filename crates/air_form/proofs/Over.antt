@@ -2,7 +2,7 @@
 use Rattle.std.proofs.Common.{◌≡◌, ℕ, zero, suc, ◌+◌, ◌<◌, ◌≤◌, List, [], ◌∷◌, ◌++◌, length, refl, sym, ◌∙◌, ap, arith, Some, None, Option}
 use Rattle.std.specs.Prelude.{map}
 use Rattle.type_form.specs.Known.{Known}
-use Rattle.type_form.specs.Means.{Grows, ty_at, value_at, decl_at, instance_at, list_at, tys_at}
+use Rattle.type_form.specs.Means.{Grows, ty_at, value_at, decl_at, instance_at, bytes_at, tys_at}
 use Rattle.air_form.specs.declared.node.AirRef.{AirRef}
 use Rattle.air_form.specs.declared.node.Part.{Part}
 use Rattle.air_form.specs.declared.node.Callee.{Callee}
@@ -92,13 +92,13 @@ over-same k a b (node.Check condition) h = cc
 
 callee-grows : (k l : Known) → Grows k l → (c : Callee) → IsCallee k c → IsCallee l c
 callee-grows k l g (callee.Instance i) h = g.stays.is_instance i h
-callee-grows k l g (callee.Extern decl library params) h = (g.stays.is_decl decl h.0, g.stays.is_list library h.1, g.stays.is_tys params h.2)
+callee-grows k l g (callee.Extern decl library params) h = (g.stays.is_decl decl h.0, g.stays.is_bytes library h.1, g.stays.is_tys params h.2)
 
 function-grows : (k l : Known) → Grows k l → (c : Callee) → IsCallee k c → function_at l c ≡ function_at k c
 function-grows k l g (callee.Instance i) h = let e : instance_at l i ≡ instance_at k i = g.stays.instance i h in cc
 function-grows k l g (callee.Extern decl library params) h =
     let d : decl_at l decl ≡ decl_at k decl = g.stays.decl decl h.0 in
-    let e : list_at l library ≡ list_at k library = g.stays.list library h.1 in
+    let e : bytes_at l library ≡ bytes_at k library = g.stays.bytes library h.1 in
     let f : tys_at l params ≡ tys_at k params = g.stays.tys params h.2 in
     cc
 

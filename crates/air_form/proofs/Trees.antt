@@ -5,7 +5,7 @@ use Rattle.std.proofs.lemmas.List.{append-nil, get_or-take, get_or_append_left}
 use Rattle.std.proofs.Math.Seq.{get_or-append_seam, take-append_seam}
 use Rattle.type_form.specs.declared.index.Index.{Index}
 use Rattle.type_form.specs.Known.{Known}
-use Rattle.type_form.specs.Means.{Grows, IsTy, IsInstance, ty_at, instance_at, lists_at}
+use Rattle.type_form.specs.Means.{Grows, IsTy, IsInstance, ty_at, instance_at, names_at}
 use Rattle.air_form.specs.declared.node.AirRef.{AirRef}
 use Rattle.air_form.specs.declared.node.AirNode.{AirNode}
 use Rattle.air_form.specs.Nodes.{AreBelow, AreEarlier, BodyState, IsNode, refs_of}
@@ -157,7 +157,7 @@ pub IsBody-grows : (k l : Known) (b : BodyState) → Grows k l → IsBody k b �
 IsBody-grows k l b g h = record {
   result = g.stays.is_ty b.result h.result;
   slots = λ i d below. g.stays.is_ty (slice_index_or b.slots i d) (h.slots i d below);
-  errors = g.stays.is_lists b.errors h.errors;
+  errors = g.stays.is_names b.errors h.errors;
   refers = λ i d below. g.stays.is_instance (slice_index_or b.refers i d) (h.refers i d below);
   nodes = nodes-grow k l b.nodes g h.nodes;
 }
@@ -169,7 +169,7 @@ body-grows k l b g h =
     let t : ty_at l b.result ≡ ty_at k b.result = g.stays.ty b.result h.result in
     let s : map (ty_at l) b.slots ≡ map (ty_at k) b.slots = tys-grow k l g b.slots h.slots in
     let u : list_of (air_at l b.nodes) b.stmts ≡ list_of (air_at k b.nodes) b.stmts = ap statements_of (map-statements (air_at l b.nodes) (air_at k b.nodes) b.stmts (air_on k l b.nodes b.stmts g h.nodes)) in
-    let e : lists_at l b.errors ≡ lists_at k b.errors = g.stays.lists b.errors h.errors in
+    let e : names_at l b.errors ≡ names_at k b.errors = g.stays.names b.errors h.errors in
     let r : map (instance_at l) b.refers ≡ map (instance_at k) b.refers = instances-grow k l g b.refers h.refers in
     cc
 

@@ -2,7 +2,7 @@
 use Rattle.std.specs.Prelude.{ℕ, List, [], ◌∷◌, ◌++◌, map, All, Option, Some, None, slice_index_or}
 use Rattle.type_form.specs.declared.index.Index.{Index}
 use Rattle.type_form.specs.Known.{Known}
-use Rattle.type_form.specs.Means.{IsTy, ty_at, value_at, decl_at, IsInstance, instance_at, list_at, AreLists, lists_at, tys_at}
+use Rattle.type_form.specs.Means.{IsTy, ty_at, value_at, decl_at, IsInstance, instance_at, bytes_at, AreNames, names_at, tys_at}
 use Rattle.air_form.specs.declared.node.AirRef.{AirRef}
 use Rattle.air_form.specs.declared.node.Part.{Part}
 use Rattle.air_form.specs.declared.node.Callee.{Callee}
@@ -72,7 +72,7 @@ returned at (Some r) = typed.return_value (scalar_of at r)
 -- the function that a call calls
 abbrev pub function_at : Known → Callee → Function
 function_at k (callee.Instance i) = typed.instance (instance_at k i)
-function_at k (callee.Extern decl library params) = typed.extern (decl_at k decl) (list_at k library) (tys_at k params)
+function_at k (callee.Extern decl library params) = typed.extern (decl_at k decl) (bytes_at k library) (tys_at k params)
 
 abbrev pub scalar_air : Scalar → Air
 scalar_air s = of_expression (typed.scalar s)
@@ -149,7 +149,7 @@ body_at k b = record {
   result = ty_at k b.result;
   slots = map (ty_at k) b.slots;
   statements = list_of (air_at k b.nodes) b.stmts;
-  errors = lists_at k b.errors;
+  errors = names_at k b.errors;
   refers = map (instance_at k) b.refers;
 }
 
@@ -157,6 +157,6 @@ body_at k b = record {
 pub record IsBody (k : Known) (b : BodyState) : Type 0 where
   pub result : IsTy k b.result
   pub slots : All (IsTy k) b.slots
-  pub errors : AreLists k b.errors
+  pub errors : AreNames k b.errors
   pub refers : All (IsInstance k) b.refers
   pub nodes : All (IsNode k) b.nodes

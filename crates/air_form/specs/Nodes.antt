@@ -2,7 +2,7 @@
 use Rattle.std.specs.Prelude.{◌≡◌, ℕ, ◌<◌, List, [], ◌∷◌, ◌++◌, map, All, Some, None, slice_get, length, ◌≤◌}
 use Rattle.type_form.specs.declared.index.Index.{Index}
 use Rattle.type_form.specs.Known.{Known}
-use Rattle.type_form.specs.Means.{IsTy, IsValue, IsDecl, IsInstance, IsList, AreTys}
+use Rattle.type_form.specs.Means.{IsTy, IsValue, IsDecl, IsInstance, IsBytes, AreTys}
 use Rattle.air_form.specs.declared.node.AirRef.{AirRef}
 use Rattle.air_form.specs.declared.node.Part.{Part}
 use Rattle.air_form.specs.declared.node.Callee.{Callee}
@@ -101,7 +101,7 @@ pub record IsWhole (b : BodyState) : Type 0 where
 -- the indices of a function that is called denote what is wanted there
 abbrev pub IsCallee : Known → Callee → Type 0
 IsCallee k (callee.Instance i) = IsInstance k i
-IsCallee k (callee.Extern decl library params) = IsDecl k decl × IsList k library × AreTys k params
+IsCallee k (callee.Extern decl library params) = IsDecl k decl × IsBytes k library × AreTys k params
 
 -- the indices of a node denote what is wanted there
 abbrev pub IsNode : Known → AirNode → Type 0

@@ -87,7 +87,7 @@ constant_form f t c = seq (initial_value f t c) (λ v. pure (constant v))
 
 -- the value of a function is its declaration
 abbrev pub function_value : DeclPath → Value
-function_value d = value.Function (ty.Simple simple.GenericFunction) d
+function_value d = value.Function d
 
 -- the instance of a function without parameters
 abbrev pub only_instance : DeclPath → Instance
