@@ -55,7 +55,7 @@ fn layout_of(shards: usize, words: usize) -> Layout
     requires many { shards * 1024 ≤ words }
     requires small { words < 2 ^ 60 }
     ensures laid { IsLayout result }
-    ensures counts { (result.shards ≡ shards) × (result.size ≡ words / shards) × (result.words ≡ words) }
+    ensures counts { (result.shards ≡ shards) × (result.words ≡ words) }
 {
     let size = words / shards;
     let mut top = 0;

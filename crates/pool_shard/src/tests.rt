@@ -1,5 +1,6 @@
-// The worked numbers of a shard of 1,024 words, keys of every length, and a shard that grows.
-use crate::{Full, PoolRows};
+// The worked numbers of a shard of 1,024 words, shards with room for more levels, and keys of every
+// length.
+use crate::{Full, PoolRows, hash_key};
 use std::test::Fail;
 use type_form::{Index, KeyBuf};
 
@@ -38,6 +39,22 @@ fn a_key_is_read_back(rt: HostRuntime) -> Result<(), Fail> {
     rows.key_into(short, &mut into);
     assert_eq!(rt; into.as_slice(), [5].as_slice());
     assert_eq!(rt; rows.find(&[5]), Some(short));
+    Ok(())
+}
+
+#[test]
+fn a_shard_has_its_part_of_all_words(rt: HostRuntime) -> Result<(), Fail> {
+    // Two shards of 4,096 words each, and one over: there is room for levels up to that of 512 slots.
+    let mut rows = PoolRows::open(rt.alloc(), 2, 8193)?;
+    // The head, the levels of 64, 128, 256 and 512 slots, and then the rows.
+    let mut next = [961u64, 4096 + 961];
+    for n in 0..200u64 {
+        let shard = (hash_key(&[n]) % 2) as usize;
+        assert_eq!(rt; rows.intern(&[n]), Ok(Index(next[shard])));
+        next[shard] = next[shard].wrapping_add(2);
+    }
+    // 64 rows are the most in a shard of 1,024 words.
+    assert!(rt; next[0] > 961 + 2 * 64 && next[1] > 4096 + 961 + 2 * 64);
     Ok(())
 }
 

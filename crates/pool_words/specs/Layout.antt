@@ -66,11 +66,14 @@ head z ws s = slice_index ws (base z s)
 abbrev pub level : Layout → List ℕ → ℕ → ℕ → List ℕ
 level z ws s k = window ws (base z s + level_at k) (width k)
 
--- a layout of 1 to 64 shards: the levels take at most a quarter of a shard, and a further level would take more
+-- A layout of 1 to 64 shards. Each has as many words as all words give, so that fewer are left over
+-- than there are shards. The levels take at most a quarter of a shard, and a further level would take
+-- more
 pub record IsLayout (z : Layout) : Type 0 where
   pub some : 0 < z.shards
   pub few : z.shards ≤ 64
   pub fits : z.shards * z.size ≤ z.words
+  pub left_over : z.words < z.shards * z.size + z.shards
   pub small : z.words < 2 ^ 60
   pub large : 1024 ≤ z.size
   pub quarter : level_at (z.top + 1) ≤ z.size / 4

@@ -4,4 +4,4 @@ use Rattle.pool_words.proofs.tests.opens_with_every_word_0.Goals as goal
 
 pub open-requires-clause-laid : goal.open-requires-clause-laid
 unfolding level_at
-open-requires-clause-laid g c = record { some = lit< tt; few = lit≤ tt; fits = lit≤ tt; small = lit< tt; large = lit≤ tt; quarter = lit≤ tt; most = lit< tt }
+open-requires-clause-laid g c = record { some = lit< tt; few = lit≤ tt; fits = lit≤ tt; left_over = lit< tt; small = lit< tt; large = lit≤ tt; quarter = lit≤ tt; most = lit< tt }
