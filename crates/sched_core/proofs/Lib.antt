@@ -1,0 +1,4 @@
+pub mod Schedules
+pub mod Entries
+pub mod TableSteps
+pub mod Possible

@@ -1,0 +1,5 @@
+pub mod Assignment
+pub mod Machine
+pub mod Tickets
+pub mod Tables
+pub mod LogWithRoom
