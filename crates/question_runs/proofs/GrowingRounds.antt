@@ -8,16 +8,17 @@ use Rattle.question_runs.specs.Rounds.{Language, answer_by, now, run_by, result_
 use Rattle.question_runs.proofs.GrowingRuns.{continues-run}
 
 -- more results are more answers
-option_map-lower : {A R : Type 0} (f : R → A) (x y : Option R) (a : A) → ((r : R) → x ≡ Some r → y ≡ Some r) → option_map f x ≡ Some a → option_map f y ≡ Some a
+pub option_map-lower : {A R : Type 0} (f : R → A) (x y : Option R) (a : A) → ((r : R) → x ≡ Some r → y ≡ Some r) → option_map f x ≡ Some a → option_map f y ≡ Some a
 option_map-lower f None y a up e = absurd (cc)
 option_map-lower f (Some r) y a up e = ap (option_map f) (up r refl) ∙ e
 
-answer_by-lower : {A U R : Type 0} (of_files a : A) (f : R → A) (few more : U → Option R) (o : Option U) → ((u : U) (r : R) → few u ≡ Some r → more u ≡ Some r) → answer_by of_files f few o ≡ Some a → answer_by of_files f more o ≡ Some a
-answer_by-lower of_files a f few more None up e = e
-answer_by-lower of_files a f few more (Some u) up e = option_map-lower f (few u) (more u) a (up u) e
+-- an answer with other files and results: of the files where it is the same there, and by a result that is there too
+pub answer-again : {A U R : Type 0} (old_file new_file a : A) (f : R → A) (few more : U → Option R) (o : Option U) → (o ≡ None → old_file ≡ a → new_file ≡ a) → ((u : U) (r : R) → o ≡ Some u → few u ≡ Some r → more u ≡ Some r) → answer_by old_file f few o ≡ Some a → answer_by new_file f more o ≡ Some a
+answer-again old_file new_file a f few more None same up e = let is : old_file ≡ a = cc in ap (λ x. Some x) (same refl is)
+answer-again old_file new_file a f few more (Some u) same up e = option_map-lower f (few u) (more u) a (λ r is. up u r refl is) e
 
 pub now-lower : {Q A U R : Type 0} (l : Language Q A U R) (files : Q → A) (few more : U → Option R) → Lower few more → Lower (now l files few) (now l files more)
-now-lower l files few more up q a e = answer_by-lower (files q) a l.answer_of few more (l.unit_asked q) up e
+now-lower l files few more up q a e = answer-again (files q) (files q) a l.answer_of few more (l.unit_asked q) (λ none same. same) (λ u r is at. up u r at) e
 
 pub run_by-continues : {Q A U R : Type 0} (l : Language Q A U R) (files : Q → A) (few more : U → Option R) → Lower few more → (u : U) → Continues (run_by l files few u) (run_by l files more u)
 run_by-continues l files few more up u = continues-run l.setting (now l files few) (now l files more) (l.elab u) [] (λ q a asks e. now-lower l files few more up q a e)

@@ -5,3 +5,4 @@ pub mod GrowingRounds
 pub mod TogetherRounds
 mod Needs
 mod AtRest
+pub mod KeptRuns

@@ -5,3 +5,4 @@ pub mod Rounds
 pub mod RoundLaws
 pub mod RestLaws
 pub mod Kept
+pub mod KeptLaws

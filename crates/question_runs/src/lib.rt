@@ -10,6 +10,7 @@
 
 ghost use Rattle.question_runs.specs.RunLaws.{RunsHonestly, RunsByAnswers, MoreAnswers, OtherAnswers, FirstParts, TracesLead, OneTurn, OneThenAnother};
 ghost use Rattle.question_runs.specs.RoundLaws.{RoundsGrow, RoundRunsGrow, RoundsTogether};
+ghost use Rattle.question_runs.specs.KeptLaws.{CleanServes, SameServes};
 ghost use Rattle.question_runs.specs.RestLaws.{BeginsSound, KnowsSoundly, FinishesSoundly, EndedStays, WaitingStays, RestIsWhole};
 
 /// The answers of a run are those at hand, and a run depends on them alone.
@@ -48,4 +49,10 @@ pub fn results_at_rest<Question, Answer, Unit, Outcome>()
     ensures ended { EndedStays Question Answer Unit Outcome }
     ensures waiting { WaitingStays Question Answer Unit Outcome }
     ensures whole { RestIsWhole Question Answer Unit Outcome }
+{}
+
+/// A clean unit serves again as it was kept, and so does a kept one whose answers are all the same.
+pub fn kept_units_serve<Question, Answer, Unit, Outcome>()
+    ensures clean { CleanServes Question Answer Unit Outcome }
+    ensures same { SameServes Question Answer Unit Outcome }
 {}
