@@ -1,0 +1,4 @@
+pub mod EventFacts
+pub mod Moments
+pub mod Resting
+pub mod Bounds

@@ -1,0 +1,23 @@
+//! The law of schedules: in whatever order units of analysis are claimed, answered and finished,
+//! and whatever was kept from before, what is done is what the plain definition gives.
+//!
+//! The model: a log of the machine's events (`sched_core`) over any units and results, each event
+//! with a reason in the runs of units (`question_runs`). The definition of elaboration, what the
+//! files answer, the roots and what was kept are arguments.
+//! Public calls do nothing; their clauses are the laws.
+//! The crate stands on `question_runs` and `sched_core`.
+#![tactic(auto)]
+
+ghost use Rattle.sched_laws.specs.Laws.{EveryMoment, LastMoment, OneMore, RoomLeft};
+
+/// Every schedule ends in the results by rounds, the demanded units and the stuck ones.
+pub fn schedules_agree<Question, Answer, Unit, Outcome>()
+    ensures every_moment { EveryMoment Question Answer Unit Outcome }
+    ensures last_moment { LastMoment Question Answer Unit Outcome }
+{}
+
+/// No schedule knows more units than are demanded.
+pub fn room_is_left<Question, Answer, Unit, Outcome>()
+    ensures one_more { OneMore Question Answer Unit Outcome }
+    ensures room_left { RoomLeft Question Answer Unit Outcome }
+{}
