@@ -1,7 +1,7 @@
 -- A run with more answers goes on in the moves of the run with fewer.
 use Rattle.std.proofs.Common.{◌≡◌, Bool, true, false, List, [], ◌∷◌, ◌++◌, Option, Some, None, refl, sym, ap, ◌∙◌, subst, inl, inr}
 use Rattle.question_runs.specs.Programs.{Prog, done, ask, refer}
-use Rattle.question_runs.specs.Runs.{Move, asked, referred, Run, ends, fails, stops, goes, Setting, recall, unless, hears, run, Asks, Answers, stop_of}
+use Rattle.question_runs.specs.Runs.{Move, asked, referred, Run, ends, fails, stops, goes, Setting, recall, unless, hears, run, trace_of, Asks, Answers, Gives, IsRunOf, stop_of}
 use Rattle.question_runs.specs.RunLaws.{Lower, AsksFirst, Continues}
 
 -- each answer that `few` has to a question of the run is the one that `more` has
@@ -32,6 +32,24 @@ pub continues-run : {Q A U R : Type 0} (s : Setting Q A) (few more : Q → Optio
 continues-run s few more (done r) moves w = refl
 continues-run s few more (ask q rest) moves w = continues-hears s few more moves q (recall s.same moves q) (few q) (more q) refl refl (λ a now. run s few now (rest a)) (λ a now. run s more now (rest a)) (λ a now. continues-run s few more (rest a) now) w
 continues-run s few more (refer u p) moves w = (run s more (moves ++ referred u ∷ []) p, (refl, continues-run s few more p (moves ++ referred u ∷ []) w))
+
+-- a run whose answers are at hand is a first part of the run now
+gives-unless : {Q A U R : Type 0} (given : Q → Option A) (b : Bool) (r r' : Run Q A U R) → (Gives given (trace_of r) → Continues r r') → Gives given (trace_of (unless b r)) → Continues (unless b r) (unless b r')
+gives-unless given true r r' step w = refl
+gives-unless given false r r' step w = step w
+
+gives-hears : {Q A U R : Type 0} (s : Setting Q A) (given : Q → Option A) (moves : List (Move Q A U)) (q : Q) (before hand : Option A) → (rest rest' : A → List (Move Q A U) → Run Q A U R) → ((a : A) (now : List (Move Q A U)) → Gives given (trace_of (rest a now)) → Continues (rest a now) (rest' a now)) → Gives given (trace_of (hears s moves q before hand rest)) → Continues (hears s moves q before hand rest) (hears s moves q before (given q) rest')
+gives-hears s given moves q (Some a) hand rest rest' step w = gives-unless given (s.failing a) (rest a moves) (rest' a moves) (step a moves) w
+gives-hears s given moves q None None rest rest' step w = hears-asks s moves q (given q) rest'
+gives-hears s given moves q None (Some a) rest rest' step w = subst (λ x. Continues (hears s moves q None (Some a) rest) (hears s moves q None x rest')) (sym w.0) (unless (s.failing a) (rest' a (moves ++ asked q a ∷ [])), (refl, gives-unless given (s.failing a) (rest a (moves ++ asked q a ∷ [])) (rest' a (moves ++ asked q a ∷ [])) (step a (moves ++ asked q a ∷ [])) w.1))
+
+pub gives-run : {Q A U R : Type 0} (s : Setting Q A) (other given : Q → Option A) (p : Prog Q A U R) (moves : List (Move Q A U)) → Gives given (trace_of (run s other moves p)) → Continues (run s other moves p) (run s given moves p)
+gives-run s other given (done r) moves w = refl
+gives-run s other given (ask q rest) moves w = gives-hears s given moves q (recall s.same moves q) (other q) (λ a now. run s other now (rest a)) (λ a now. run s given now (rest a)) (λ a now. gives-run s other given (rest a) now) w
+gives-run s other given (refer u p) moves w = (run s given (moves ++ referred u ∷ []) p, (refl, gives-run s other given p (moves ++ referred u ∷ []) w))
+
+pub goes-on : {Q A U R : Type 0} (s : Setting Q A) (p : Prog Q A U R) (r : Run Q A U R) (given : Q → Option A) → IsRunOf s p r → Gives given (trace_of r) → Continues r (run s given [] p)
+goes-on s p r given (other, e) w = subst (λ x. Continues x (run s given [] p)) e (gives-run s other given p [] (subst (λ x. Gives given (trace_of x)) (sym e) w))
 
 pub Agrees-Lower : {Q A U R : Type 0} (few more : Q → Option A) (r : Run Q A U R) → Lower few more → Agrees few more r
 Agrees-Lower few more r up = λ q a asks e. up q a e

@@ -1,7 +1,7 @@
 -- What holds of the run of every program, whatever it asks. Q are questions, A answers, U units and R results.
 use Rattle.std.specs.Prelude.{◌≡◌, true, List, [], ◌∷◌, ◌++◌, ◌↔◌, Option, Some, None, ⊤}
 use Rattle.question_runs.specs.Programs.{Prog, bind}
-use Rattle.question_runs.specs.Runs.{Move, asked, referred, Run, ends, fails, stops, goes, Setting, recall, unless, run, nothing, behind, Asks, IsOver, Answers, Gives, IsRunOf}
+use Rattle.question_runs.specs.Runs.{Move, asked, referred, Run, ends, fails, stops, goes, Setting, recall, unless, run, nothing, behind, trace_of, Asks, IsOver, Answers, Gives, IsRunOf}
 
 -- whoever has the answers of one has them of the other
 abbrev pub Lower : {Q A : Type 0} → (Q → Option A) → (Q → Option A) → Type 0
@@ -65,6 +65,10 @@ module _ (Q A U R : Type 0) where
   -- a run goes on in the moves of another, where each answer that it has at hand to a question of that one is the other's too
   abbrev pub OtherAnswers : Type 0
   OtherAnswers = (s : Setting Q A) (p : Prog Q A U R) (moves : List (Move Q A U)) (few more : Q → Option A) → ((q : Q) (a : A) → Asks (run s more moves p) q → few q ≡ Some a → more q ≡ Some a) → Continues (run s few moves p) (run s more moves p)
+
+  -- a run of the program whose answers are at hand is a first part of its run now: where it stops for want of an answer there may be one now
+  abbrev pub GoesOn : Type 0
+  GoesOn = (s : Setting Q A) (p : Prog Q A U R) (r : Run Q A U R) (given : Q → Option A) → IsRunOf s p r → Gives given (trace_of r) → Continues r (run s given [] p)
 
   -- as far as the answers of a run are at hand, the program makes the same moves; then it asks the same question
   abbrev pub FirstParts : Type 0

@@ -8,7 +8,7 @@
 //! The crate stands on nothing.
 #![tactic(auto)]
 
-ghost use Rattle.question_runs.specs.RunLaws.{RunsHonestly, RunsByAnswers, MoreAnswers, OtherAnswers, FirstParts, TracesLead, OneTurn, OneThenAnother};
+ghost use Rattle.question_runs.specs.RunLaws.{RunsHonestly, RunsByAnswers, MoreAnswers, OtherAnswers, GoesOn, FirstParts, TracesLead, OneTurn, OneThenAnother};
 ghost use Rattle.question_runs.specs.RoundLaws.{RoundsGrow, RoundRunsGrow, RoundsTogether};
 ghost use Rattle.question_runs.specs.KeptLaws.{CleanServes, SameServes};
 ghost use Rattle.question_runs.specs.RestLaws.{BeginsSound, KnowsSoundly, FinishesSoundly, EndedStays, WaitingStays, RestIsWhole};
@@ -23,6 +23,7 @@ pub fn runs_by_answers<Question, Answer, Unit, Outcome>()
 
 /// A part of a run from its beginning says what comes next, whatever else has changed.
 pub fn runs_by_traces<Question, Answer, Unit, Outcome>()
+    ensures goes_on { GoesOn Question Answer Unit Outcome }
     ensures first_parts { FirstParts Question Answer Unit Outcome }
     ensures traces_lead { TracesLead Question Answer Unit Outcome }
 {}

@@ -15,7 +15,7 @@ use Rattle.sched_laws.specs.Honest.{Wanted}
 use Rattle.sched_laws.specs.Laws.{IsUpdate, AtMostDemanded, IsOneMore}
 use Rattle.sched_laws.proofs.Moments.{Moment, moment-of, wanted-demanded}
 
-nothing-in : {X : Type 0} (x : X) → Contains [] x → ⊥
+pub nothing-in : {X : Type 0} (x : X) → Contains [] x → ⊥
 nothing-in x (k, below, is) = omega arith
 
 -- the first of a list, or one of the rest
@@ -25,7 +25,7 @@ Contains-cases x xs y among = elim (Contains-append_cases (x ∷ []) xs y among)
   | inr later ↦ inr later
 ]
 
-same-apart : {U : Type 0} (same : U → U → Bool) → IsSameness same → (u v : U) (b : Bool) → same u v ≡ b → same v u ≡ false → b ≡ false
+pub same-apart : {U : Type 0} (same : U → U → Bool) → IsSameness same → (u v : U) (b : Bool) → same u v ≡ b → same v u ≡ false → b ≡ false
 same-apart same laws u v true is apart = let one : u ≡ v = laws.sound u v is in let so : same v u ≡ true = ap (same v) one ∙ laws.self v in cc
 same-apart same laws u v false is apart = refl
 

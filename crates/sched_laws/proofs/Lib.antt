@@ -2,3 +2,5 @@ pub mod EventFacts
 pub mod Moments
 pub mod Resting
 pub mod Bounds
+pub mod GroupRuns
+pub mod ClaimCounts

@@ -1,19 +1,21 @@
 -- What holds of an honest log at rest.
-use Rattle.std.proofs.Common.{◌≡◌, ℕ, zero, suc, List, [], ◌⊎◌, Option, Some, None, refl, ap, ◌∙◌, subst, inl, inr, arith}
+use Rattle.std.proofs.Common.{◌≡◌, ℕ, zero, suc, List, [], ◌⊎◌, Option, Some, None, refl, sym, ap, ◌∙◌, subst, inl, inr, arith}
 use Rattle.std.proofs.lemmas.Bool.{cases_lt}
 use Rattle.question_runs.specs.Runs.{Run, ends, fails, stops, goes}
 use Rattle.question_runs.specs.RunLaws.{Continues}
 use Rattle.question_runs.specs.Rounds.{Language, now, result_of, needs, Meets, round, run_at, Demanded, root, met, Stuck}
-use Rattle.question_runs.specs.Kept.{KeptUnit}
+use Rattle.question_runs.specs.Kept.{KeptUnit, KeptAfter, Clean}
 use Rattle.question_runs.proofs.GrowingRuns.{continues-run}
 use Rattle.question_runs.proofs.GrowingRounds.{run_at-continues, continues-result, continues-meets, round-grows, answer-again}
-use Rattle.question_runs.proofs.KeptRuns.{Asks-Meets}
+use Rattle.question_runs.proofs.KeptRuns.{Asks-Meets, Answers-given, result-over, over-same, clean-unit-serves}
+use Rattle.question_runs.proofs.RunSteps.{Answers-run, run-same}
+use Rattle.question_runs.specs.KeptLaws.{Serves}
 use Rattle.sched_core.specs.declared.event.Event.{Event}
 use Rattle.sched_core.specs.declared.event.Stand.{Stand}
 use Rattle.sched_core.specs.declared.event.Stand.TheVariants as at
 use Rattle.sched_core.specs.Machine.{Schedule, stand, IsKnown, done_in, replay}
 use Rattle.sched_laws.specs.Honest.{AllKnown, run_in}
-use Rattle.sched_laws.specs.Laws.{IsUpdate, IsAtRest, IsComplete}
+use Rattle.sched_laws.specs.Laws.{IsUpdate, IsAtRest, IsComplete, IsKeptOf}
 use Rattle.sched_laws.proofs.EventFacts.{IsSome-value, IsSome-of, done-stand, stand-done}
 use Rattle.sched_laws.proofs.Moments.{Waits, Moment, stays-stopped, stays-over, needs-meets, moment-of}
 
@@ -124,3 +126,30 @@ module _ {Q A U R : Type 0} (l : Language Q A U R) (files : Q → A) (roots : Li
 
 pub last-moment : {Q A U R : Type 0} (l : Language Q A U R) (files : Q → A) (roots : List U) (kept : List (KeptUnit Q A U R)) (log : List (Event U R)) → IsUpdate l files roots kept log → IsAtRest l files roots (replay l.same_unit log) → IsComplete l files roots (replay l.same_unit log)
 last-moment l files roots kept log update rest = complete l files roots (replay l.same_unit log) (moment-of l files roots kept update.lawful update.is_kept log update.possible update.honest) rest
+
+-- at rest a unit that is done has its run of the round
+module _ {Q A U R : Type 0} (l : Language Q A U R) (files : Q → A) (roots : List U) (s : Schedule U R) (m : Moment l files roots s) (rest : IsAtRest l files roots s) where
+  done-run : (u : U) (r : R) → stand l.same_unit s u ≡ Some (at.Done r) → run_in l files s u ≡ run_at l files m.level u
+  done-run u r is =
+      let done : (result_of l (run_at l files m.level u) ≡ Some r) × AllKnown l s (run_at l files m.level u) = m.done u r (stand-done l.same_unit s u r is) in
+      run-same l.setting (now l files (round l files m.level)) (now l files (done_in l.same_unit s)) (l.elab u) [] (Answers-given (now l files (round l files m.level)) (now l files (done_in l.same_unit s)) (run_at l files m.level u) (result-over l (run_at l files m.level u) r done.0) (Answers-run l.setting (now l files (round l files m.level)) (l.elab u) []) (λ q a was asks e. answer-again (files q) (files q) a l.answer_of (round l files m.level) (done_in l.same_unit s) (l.unit_asked q) (λ none same. same) (λ v x at is'. final l files roots s m rest m.level v x (done.1 v (Asks-Meets l (run_at l files m.level u) q v asks at)) is') e))
+
+  pub kept-after : (new : List (KeptUnit Q A U R)) → IsKeptOf l files roots s new → KeptAfter l files roots new
+  kept-after new is = record {
+    demanded = λ k among. m.demanded k.unit (IsSome-of (stand l.same_unit s k.unit) (at.Done k.result) (is.done k among));
+    ran = λ k among. (m.level, sym (done-run k.unit k.result (is.done k among)) ∙ is.ran k among);
+    ended = λ k among. ap (result_of l) (sym (is.ran k among) ∙ done-run k.unit k.result (is.done k among)) ∙ (m.done k.unit k.result (stand-done l.same_unit s k.unit k.result (is.done k among))).0;
+    all = λ u n r d given. is.all u r (done-stand l.same_unit s u r (final l files roots s m rest n u r (demanded-known l files roots s m rest u d) given));
+  }
+
+  pub clean-stays : (k : KeptUnit Q A U R) → Serves l files k → IsKnown l.same_unit s k.unit → (run_in l files s k.unit ≡ k.ran) × (stand l.same_unit s k.unit ≡ Some (at.Done k.result))
+  clean-stays k again known =
+      let given : round l files (suc again.level) k.unit ≡ Some k.result = ap (result_of l) again.runs ∙ again.ended in
+      let done : stand l.same_unit s k.unit ≡ Some (at.Done k.result) = done-stand l.same_unit s k.unit k.result (final l files roots s m rest (suc again.level) k.unit k.result known given) in
+      (done-run k.unit k.result done ∙ over-same l files m.level again.level k.unit (result-over l (run_at l files m.level k.unit) k.result (m.done k.unit k.result (stand-done l.same_unit s k.unit k.result done)).0) (result-over l (run_at l files again.level k.unit) k.result given) ∙ again.runs, done)
+
+pub kept-again : {Q A U R : Type 0} (l : Language Q A U R) (files : Q → A) (roots : List U) (kept : List (KeptUnit Q A U R)) (log : List (Event U R)) → IsUpdate l files roots kept log → IsAtRest l files roots (replay l.same_unit log) → (new : List (KeptUnit Q A U R)) → IsKeptOf l files roots (replay l.same_unit log) new → KeptAfter l files roots new
+kept-again l files roots kept log update rest new is = kept-after l files roots (replay l.same_unit log) (moment-of l files roots kept update.lawful update.is_kept log update.possible update.honest) rest new is
+
+pub clean-runs-stay : {Q A U R : Type 0} (l : Language Q A U R) (files : Q → A) (roots : List U) (kept : List (KeptUnit Q A U R)) (log : List (Event U R)) → IsUpdate l files roots kept log → IsAtRest l files roots (replay l.same_unit log) → (k : KeptUnit Q A U R) → Clean l files kept k → IsKnown l.same_unit (replay l.same_unit log) k.unit → (run_in l files (replay l.same_unit log) k.unit ≡ k.ran) × (stand l.same_unit (replay l.same_unit log) k.unit ≡ Some (at.Done k.result))
+clean-runs-stay l files roots kept log update rest k clean known = clean-stays l files roots (replay l.same_unit log) (moment-of l files roots kept update.lawful update.is_kept log update.possible update.honest) rest k (clean-unit-serves l files kept update.lawful.answers update.is_kept k clean) known

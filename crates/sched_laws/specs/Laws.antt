@@ -4,13 +4,13 @@
 use Rattle.std.specs.Prelude.{◌≡◌, ℕ, ◌<◌, ◌≤◌, List, ◌∷◌, length, map, ◌↔◌, Some, None}
 use Rattle.std.specs.List.{Contains, IsDistinct}
 use Rattle.question_runs.specs.Rounds.{Language, round, Demanded, Stuck}
-use Rattle.question_runs.specs.Kept.{KeptUnit, IsKept}
+use Rattle.question_runs.specs.Kept.{KeptUnit, KeptAfter, IsKept, Clean}
 use Rattle.question_runs.specs.KeptLaws.{IsCompared}
 use Rattle.sched_core.specs.declared.event.TheConstants.{MOST_UNITS}
 use Rattle.sched_core.specs.declared.event.Event.{Event}
 use Rattle.sched_core.specs.declared.event.Stand.TheVariants as at
 use Rattle.sched_core.specs.Machine.{Schedule, IsSameness, stand, IsKnown, replay, IsLog}
-use Rattle.sched_laws.specs.Honest.{Wanted, IsHonest}
+use Rattle.sched_laws.specs.Honest.{run_in, Wanted, IsHonest}
 
 -- what the laws ask of a language: its tests tell which units and which answers are one
 pub record IsLawful {Q A U R : Type 0} (l : Language Q A U R) : Type 0 where
@@ -42,6 +42,12 @@ module _ {Q A U R : Type 0} (l : Language Q A U R) (files : Q → A) (roots : Li
     pub done : (u : U) (r : R) → (stand l.same_unit s u ≡ Some (at.Done r)) ↔ (Demanded l files roots u × ((n : ℕ) × (round l files n u ≡ Some r)))
     pub waiting : (u v : U) → (stand l.same_unit s u ≡ Some (at.Waiting v)) ↔ Stuck l files roots u v
 
+  -- what a session may keep then: each unit that is done, with its result and its run
+  pub record IsKeptOf (s : Schedule U R) (kept : List (KeptUnit Q A U R)) : Type 0 where
+    pub done : (k : KeptUnit Q A U R) → Contains kept k → stand l.same_unit s k.unit ≡ Some (at.Done k.result)
+    pub ran : (k : KeptUnit Q A U R) → Contains kept k → run_in l files s k.unit ≡ k.ran
+    pub all : (u : U) (r : R) → stand l.same_unit s u ≡ Some (at.Done r) → (k : KeptUnit Q A U R) × Contains kept k × (k.unit ≡ u)
+
   -- the known units, in the order of their demands
   abbrev pub units_of : Schedule U R → List U
   units_of s = map (λ p. p.0) s
@@ -61,6 +67,14 @@ module _ (Q A U R : Type 0) where
 
   abbrev pub LastMoment : Type 0
   LastMoment = (l : Language Q A U R) (files : Q → A) (roots : List U) (kept : List (KeptUnit Q A U R)) (log : List (Event U R)) → IsUpdate l files roots kept log → IsAtRest l files roots (replay l.same_unit log) → IsComplete l files roots (replay l.same_unit log)
+
+  -- so the next update begins with units that an update kept
+  abbrev pub KeptAgain : Type 0
+  KeptAgain = (l : Language Q A U R) (files : Q → A) (roots : List U) (kept : List (KeptUnit Q A U R)) (log : List (Event U R)) → IsUpdate l files roots kept log → IsAtRest l files roots (replay l.same_unit log) → (new : List (KeptUnit Q A U R)) → IsKeptOf l files roots (replay l.same_unit log) new → KeptAfter l files roots new
+
+  -- a clean unit that is known has its kept run again, and may be kept with it as it is
+  abbrev pub CleanRunsStay : Type 0
+  CleanRunsStay = (l : Language Q A U R) (files : Q → A) (roots : List U) (kept : List (KeptUnit Q A U R)) (log : List (Event U R)) → IsUpdate l files roots kept log → IsAtRest l files roots (replay l.same_unit log) → (k : KeptUnit Q A U R) → Clean l files kept k → IsKnown l.same_unit (replay l.same_unit log) k.unit → (run_in l files (replay l.same_unit log) k.unit ≡ k.ran) × (stand l.same_unit (replay l.same_unit log) k.unit ≡ Some (at.Done k.result))
 
   abbrev pub OneMore : Type 0
   OneMore = (l : Language Q A U R) (files : Q → A) (roots : List U) (kept : List (KeptUnit Q A U R)) (log : List (Event U R)) → IsUpdate l files roots kept log → (u : U) → Wanted l files kept roots (replay l.same_unit log) u → stand l.same_unit (replay l.same_unit log) u ≡ None → IsOneMore l files roots (replay l.same_unit log) u

@@ -1,2 +1,4 @@
 pub mod Honest
 pub mod Laws
+pub mod Groups
+pub mod Claims

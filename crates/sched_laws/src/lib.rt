@@ -8,7 +8,8 @@
 //! The crate stands on `question_runs` and `sched_core`.
 #![tactic(auto)]
 
-ghost use Rattle.sched_laws.specs.Laws.{EveryMoment, LastMoment, OneMore, RoomLeft};
+ghost use Rattle.sched_laws.specs.Laws.{EveryMoment, LastMoment, KeptAgain, CleanRunsStay, OneMore, RoomLeft};
+ghost use Rattle.sched_laws.specs.Groups.{WholeRuns, PartsMeet, PartsNeed, RunsLast};
 
 /// Every schedule ends in the results by rounds, the demanded units and the stuck ones.
 pub fn schedules_agree<Question, Answer, Unit, Outcome>()
@@ -20,4 +21,18 @@ pub fn schedules_agree<Question, Answer, Unit, Outcome>()
 pub fn room_is_left<Question, Answer, Unit, Outcome>()
     ensures one_more { OneMore Question Answer Unit Outcome }
     ensures room_left { RoomLeft Question Answer Unit Outcome }
+{}
+
+/// What is done at rest may be kept, and the next update begins with it.
+pub fn results_are_kept<Question, Answer, Unit, Outcome>()
+    ensures kept_again { KeptAgain Question Answer Unit Outcome }
+    ensures clean_runs { CleanRunsStay Question Answer Unit Outcome }
+{}
+
+/// A worker's run serves as the reason for a group of events.
+pub fn groups_have_reasons<Question, Answer, Unit, Outcome>()
+    ensures whole { WholeRuns Question Answer Unit Outcome }
+    ensures meets { PartsMeet Question Answer Unit Outcome }
+    ensures needs { PartsNeed Question Answer Unit Outcome }
+    ensures last { RunsLast Question Answer Unit Outcome }
 {}
