@@ -1,6 +1,12 @@
 -- How often a unit is claimed. Claims of any kind, needs and takings back take turns, so they can be counted against each other.
-use Rattle.std.proofs.Common.{◌≡◌, ℕ, suc, ◌+◌, ◌≤◌, Bool, true, false, List, [], ◌∷◌, length, Option, Some, None, refl, sym, ap, ◌∙◌, inl, inr, arith}
+use Rattle.std.proofs.Common.{◌≡◌, ℕ, suc, ◌+◌, ◌≤◌, Bool, true, false, List, [], ◌∷◌, length, Option, Some, None, refl, sym, ap, ◌∙◌, subst, inl, inr, arith}
 use Rattle.std.specs.Prelude.{if◌then◌else◌, is_some}
+use Rattle.std.specs.List.{Contains, IsDistinct, AllByRecursion}
+use Rattle.question_runs.specs.Runs.{Run, ends, fails, stops, goes, asked, referred, Asks}
+use Rattle.question_runs.specs.RunLaws.{AsksFirst, Continues}
+use Rattle.question_runs.specs.Rounds.{Language}
+use Rattle.question_runs.specs.Kept.{KeptUnit}
+use Rattle.question_runs.proofs.GrowingRounds.{run_by-continues}
 use Rattle.sched_core.specs.declared.event.Kind.{Kind}
 use Rattle.sched_core.specs.declared.event.Kind.TheVariants as kind
 use Rattle.sched_core.specs.declared.event.Event.{Event}
@@ -8,9 +14,11 @@ use Rattle.sched_core.specs.declared.event.Stand.{Stand}
 use Rattle.sched_core.specs.declared.event.Event.TheVariants as event
 use Rattle.sched_core.specs.declared.event.Stand.TheVariants as at
 use Rattle.sched_core.specs.Machine.{Schedule, is_claimed_by, is_waiting_for, IsSameness, stand, done_in, Enabled, moved, after, replay, IsLog}
-use Rattle.sched_laws.specs.Claims.{is_had_by, works, needed, taken_back}
-use Rattle.sched_laws.proofs.EventFacts.{stand-moved, new-unit}
-use Rattle.sched_laws.proofs.Bounds.{same-apart}
+use Rattle.sched_laws.specs.Honest.{KnownUpTo, run_in, NoNeed, IsHonest}
+use Rattle.sched_laws.specs.Laws.{IsUpdate}
+use Rattle.sched_laws.specs.Claims.{is_had_by, works, needed, taken_back, HasFewClaims}
+use Rattle.sched_laws.proofs.EventFacts.{stand-moved, new-unit, done-stays}
+use Rattle.sched_laws.proofs.Bounds.{Contains-cases, nothing-in, same-apart}
 
 -- the claims that a unit still has open: one, where a worker has it or it is done
 abbrev open_claims : {U R : Type 0} → Option (Stand U R) → ℕ
@@ -149,3 +157,91 @@ module _ {U R : Type 0} (same : U → U → Bool) (laws : IsSameness same) where
       let stays : open_claims (stand same (after same (replay same past) (event.Finish w v r)) u) ≡ open_claims (stand same (replay same past) u) = balance-finish u v r w past (same v u) refl possible.0 in
       omega arith
   balanced u (event.Reclaim w ∷ past) possible = balance-reclaim u w past (stand same (replay same past) u) refl (balanced u past possible.1)
+
+-- what a run asks, a run that goes on in its moves asks
+AsksFirst-Asks : {Q A U R : Type 0} (r : Run Q A U R) (q : Q) → AsksFirst r q → Asks r q
+AsksFirst-Asks (ends x) q asks = asks
+AsksFirst-Asks fails q asks = asks
+AsksFirst-Asks (stops p) q asks = asks
+AsksFirst-Asks (goes (asked p a) r) q asks = inl asks
+AsksFirst-Asks (goes (referred u) r) q asks = absurd asks
+
+continues-asks : {Q A U R : Type 0} (r later : Run Q A U R) (q : Q) → Continues r later → Asks r q → Asks later q
+continues-asks (ends x) later q c asks = absurd asks
+continues-asks fails later q c asks = absurd asks
+continues-asks (stops p) later q c asks = AsksFirst-Asks later q (subst (AsksFirst later) asks c)
+continues-asks (goes (asked p a) r) later q (rest, (is, c)) asks = subst (λ x. Asks x q) (sym is) (elim asks [ inl here ↦ inl here | inr there ↦ inr (continues-asks r rest q c there) ])
+continues-asks (goes (referred u) r) later q (rest, (is, c)) asks = subst (λ x. Asks x q) (sym is) (continues-asks r rest q c asks)
+
+-- the question by which a run asks for a unit
+known-asks : {Q A U R : Type 0} (l : Language Q A U R) (s : Schedule U R) (r : Run Q A U R) (v : U) → KnownUpTo l s r v → (q : Q) × (Asks r q × (l.unit_asked q ≡ Some v))
+known-asks l s (ends x) v k = absurd k
+known-asks l s fails v k = absurd k
+known-asks l s (stops q) v k = (q, (refl, k))
+known-asks {Q = Q} l s (goes (asked q a) r) v (here, later) = elim later [ inl is ↦ (q, (inl refl, is)) | inr k ↦ let more : (p : Q) × (Asks r p × (l.unit_asked p ≡ Some v)) = known-asks l s r v k in (more.0, (inr more.1.0, more.1.1)) ]
+known-asks l s (goes (referred u) r) v (here, k) = known-asks l s r v k
+
+module _ {Q A U R : Type 0} (l : Language Q A U R) (files : Q → A) (roots : List U) (kept : List (KeptUnit Q A U R)) (laws : IsSameness l.same_unit) where
+  -- a unit that was not needed before is none of those that were
+  none-needed : (u on : U) (past : List (Event U R)) → NoNeed l files kept past u on → AllByRecursion (λ v. l.same_unit on v ≡ false) (needed l.same_unit u past)
+  none-needed u on [] no_need = tt
+  none-needed u on (event.Demand v ∷ past) no_need = none-needed u on past no_need.1
+  none-needed u on (event.Claim w v purpose ∷ past) no_need = none-needed u on past no_need.1
+  none-needed u on (event.Finish w v r ∷ past) no_need = none-needed u on past no_need.1
+  none-needed u on (event.Reclaim w ∷ past) no_need = none-needed u on past no_need.1
+  none-needed u on (event.Need w v other ∷ past) no_need = both (l.same_unit v u) refl (l.same_unit on other) refl (none-needed u on past no_need.1)
+    where
+      both : (b : Bool) → l.same_unit v u ≡ b → (c : Bool) → l.same_unit on other ≡ c → AllByRecursion (λ x. l.same_unit on x ≡ false) (needed l.same_unit u past) → AllByRecursion (λ x. l.same_unit on x ≡ false) (if b then other ∷ needed l.same_unit u past else needed l.same_unit u past)
+      both false is c is' rest = rest
+      both true is false is' rest = (is', rest)
+      both true is true is' rest = absurd (no_need.0 w (ap (λ x. event.Need w x other) (laws.sound v u is) ∙ ap (λ x. event.Need w u x) (sym (laws.sound on other is'))))
+
+  needed-distinct : (u : U) (log : List (Event U R)) → IsHonest l files kept roots log → IsDistinct l.same_unit (needed l.same_unit u log)
+  unfolding IsDistinct
+  needed-distinct u [] honest = tt
+  needed-distinct u (event.Demand v ∷ past) honest = needed-distinct u past honest.1
+  needed-distinct u (event.Claim w v purpose ∷ past) honest = needed-distinct u past honest.1
+  needed-distinct u (event.Finish w v r ∷ past) honest = needed-distinct u past honest.1
+  needed-distinct u (event.Reclaim w ∷ past) honest = needed-distinct u past honest.1
+  needed-distinct u (event.Need w v on ∷ past) honest = both (l.same_unit v u) refl (needed-distinct u past honest.1)
+    where
+      both : (b : Bool) → l.same_unit v u ≡ b → IsDistinct l.same_unit (needed l.same_unit u past) → IsDistinct l.same_unit (if b then on ∷ needed l.same_unit u past else needed l.same_unit u past)
+      both false is rest = rest
+      both true is rest = (none-needed u on past (subst (λ x. NoNeed l files kept past x on) (laws.sound v u is) honest.0.1), rest)
+
+  -- the run of the unit asks for each that it needed
+  asked-later : (s : Schedule U R) (e : Event U R) → Enabled l.same_unit s e → (u v : U) → (q : Q) × (Asks (run_in l files s u) q × (l.unit_asked q ≡ Some v)) → (q : Q) × (Asks (run_in l files (after l.same_unit s e) u) q × (l.unit_asked q ≡ Some v))
+  asked-later s e enabled u v (q, (asks, is)) = (q, (continues-asks (run_in l files s u) (run_in l files (after l.same_unit s e) u) q (run_by-continues l files (done_in l.same_unit s) (done_in l.same_unit (after l.same_unit s e)) (done-stays l.same_unit laws s e enabled) u) asks, is))
+
+  needed-asked : (u v : U) (log : List (Event U R)) → IsLog l.same_unit log → IsHonest l files kept roots log → Contains (needed l.same_unit u log) v → (q : Q) × (Asks (run_in l files (replay l.same_unit log) u) q × (l.unit_asked q ≡ Some v))
+  needed-asked u v [] possible honest among = absurd (nothing-in v among)
+  needed-asked u v (event.Demand x ∷ past) possible honest among = asked-later (replay l.same_unit past) (event.Demand x) possible.0 u v (needed-asked u v past possible.1 honest.1 among)
+  needed-asked u v (event.Claim w x purpose ∷ past) possible honest among = asked-later (replay l.same_unit past) (event.Claim w x purpose) possible.0 u v (needed-asked u v past possible.1 honest.1 among)
+  needed-asked u v (event.Finish w x r ∷ past) possible honest among = asked-later (replay l.same_unit past) (event.Finish w x r) possible.0 u v (needed-asked u v past possible.1 honest.1 among)
+  needed-asked u v (event.Reclaim w ∷ past) possible honest among = asked-later (replay l.same_unit past) (event.Reclaim w) possible.0 u v (needed-asked u v past possible.1 honest.1 among)
+  needed-asked u v (event.Need w x on ∷ past) possible honest among = asked-later (replay l.same_unit past) (event.Need w x on) possible.0 u v (both (l.same_unit x u) refl (λ among'. needed-asked u v past possible.1 honest.1 among') among)
+    where
+      both : (b : Bool) → l.same_unit x u ≡ b → (Contains (needed l.same_unit u past) v → (q : Q) × (Asks (run_in l files (replay l.same_unit past) u) q × (l.unit_asked q ≡ Some v))) → Contains (if b then on ∷ needed l.same_unit u past else needed l.same_unit u past) v → (q : Q) × (Asks (run_in l files (replay l.same_unit past) u) q × (l.unit_asked q ≡ Some v))
+      both false is earlier among' = earlier among'
+      both true is earlier among' = elim (Contains-cases on (needed l.same_unit u past) v among') [
+        | inl here ↦ known-asks l (replay l.same_unit past) (run_in l files (replay l.same_unit past) u) v (subst (KnownUpTo l (replay l.same_unit past) (run_in l files (replay l.same_unit past) u)) here (subst (λ y. KnownUpTo l (replay l.same_unit past) (run_in l files (replay l.same_unit past) y) on) (laws.sound x u is) honest.0.0))
+        | inr later ↦ earlier later
+      ]
+
+one-open : {U R : Type 0} (x : Option (Stand U R)) → open_claims x ≤ 1
+one-open None = omega arith
+one-open (Some at.Queued) = omega arith
+one-open (Some (at.Waiting v)) = omega arith
+one-open (Some (at.Claimed w)) = omega arith
+one-open (Some (at.Done r)) = omega arith
+
+pub few-claims : {Q A U R : Type 0} (l : Language Q A U R) (files : Q → A) (roots : List U) (kept : List (KeptUnit Q A U R)) (log : List (Event U R)) → IsUpdate l files roots kept log → (u : U) → HasFewClaims l files log u
+few-claims l files roots kept log update u =
+    let equal : claims l.same_unit update.lawful.units u log ≡ length (needed l.same_unit u log) + taken_back l.same_unit u log + open_claims (stand l.same_unit (replay l.same_unit log) u) = balanced l.same_unit update.lawful.units u log update.possible in
+    let less : works l.same_unit u log ≤ claims l.same_unit update.lawful.units u log = works-claims l.same_unit update.lawful.units u log in
+    let open_one : open_claims (stand l.same_unit (replay l.same_unit log) u) ≤ 1 = one-open (stand l.same_unit (replay l.same_unit log) u) in
+    record {
+      count = omega arith;
+      distinct = needed-distinct l files roots kept update.lawful.units u log update.honest;
+      asked_for = λ v among. needed-asked l files roots kept update.lawful.units u v log update.possible update.honest among;
+    }

@@ -9,6 +9,7 @@
 #![tactic(auto)]
 
 ghost use Rattle.sched_laws.specs.Laws.{EveryMoment, LastMoment, KeptAgain, CleanRunsStay, OneMore, RoomLeft};
+ghost use Rattle.sched_laws.specs.Claims.{ClaimsFew};
 ghost use Rattle.sched_laws.specs.Groups.{WholeRuns, PartsMeet, PartsNeed, RunsLast};
 
 /// Every schedule ends in the results by rounds, the demanded units and the stuck ones.
@@ -35,4 +36,10 @@ pub fn groups_have_reasons<Question, Answer, Unit, Outcome>()
     ensures meets { PartsMeet Question Answer Unit Outcome }
     ensures needs { PartsNeed Question Answer Unit Outcome }
     ensures last { RunsLast Question Answer Unit Outcome }
+{}
+
+/// A unit is claimed for work once, and once more for each unit that its run asks for and each time
+/// that it is taken back, at most.
+pub fn claims_are_few<Question, Answer, Unit, Outcome>()
+    ensures { ClaimsFew Question Answer Unit Outcome }
 {}
