@@ -1,0 +1,16 @@
+//! What units of analysis ask and are answered, as it is kept and shared.
+//!
+//! The crate stands on `zw_base`, `zir_form`, `type_form`, `air_form` and `question_runs`.
+#![tactic(auto)]
+
+mod answer;
+mod question;
+mod result;
+mod shared;
+mod trace;
+
+pub use answer::{Answer, TreeRef};
+pub use question::{Question, TextPart, UnitIndex};
+pub use result::{Diagnostic, Spot, UnitResult, UnitValue};
+pub use shared::Shared;
+pub use trace::Move;
