@@ -1,2 +1,4 @@
 pub mod Questions
 pub mod Readings
+pub mod Tables
+pub mod TableStates
