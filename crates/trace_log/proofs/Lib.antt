@@ -1,1 +1,2 @@
+pub mod TableCases
 pub mod TableLemmas

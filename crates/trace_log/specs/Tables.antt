@@ -2,9 +2,9 @@
 use Rattle.std.specs.Prelude.{◌≡◌, ℕ, ◌==◌, ◌/◌, ◌%◌, ◌-◌, Option, Some, None, if◌then◌else◌}
 use Rattle.std.specs.declared.alloc.Global.{Global}
 use Rattle.std.specs.declared.sync.Arc.{Arc}
-use Rattle.trace_log.specs.declared.table.Node.{Node, fold-Node}
-use Rattle.trace_log.specs.declared.table.Node.TheOpen as layer
-use Rattle.trace_log.specs.declared.table.Node.TheOpen.{Node-F}
+use Rattle.trace_log.specs.declared.tables.table.Node.{Node, fold-Node}
+use Rattle.trace_log.specs.declared.tables.table.Node.TheOpen as layer
+use Rattle.trace_log.specs.declared.tables.table.Node.TheOpen.{Node-F}
 
 -- what stands at a number in the tree of a link, where its trees are read so
 abbrev pub linked : {T : Type 0} → Option (Arc (ℕ → Option T) Global) → ℕ → Option T

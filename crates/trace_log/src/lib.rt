@@ -7,12 +7,12 @@ mod answer;
 mod question;
 mod result;
 mod shared;
-mod table;
+mod tables;
 mod trace;
 
 pub use answer::{Answer, TreeRef};
 pub use question::{Question, TextPart, UnitIndex};
 pub use result::{Diagnostic, Spot, UnitResult, UnitValue};
 pub use shared::Shared;
-pub use table::Table;
+pub use tables::{PairTable, PartTable, QuestionTable, Table, UnitTable};
 pub use trace::Move;

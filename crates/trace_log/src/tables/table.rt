@@ -14,7 +14,10 @@ type Link<T> = Option<Arc<Node<T>, Global>>;
 #[derive(Drop)]
 pub enum Node<T> {
     /// One value.
-    One { own: u64, value: Shared<T> },
+    One {
+        own: u64,
+        value: Shared<T>,
+    },
     /// The value at 0, those at odd numbers, 2 n + 1 by n, and those at even ones, 2 n + 2 by n.
     Fork {
         here: Option<Shared<T>>,
@@ -28,13 +31,7 @@ fn get_in<T>(node: &Node<T>, number: u64) -> Option<&Shared<T>>
     ensures { option_copied result ≡ node_get node.now number }
 {
     match node {
-        Node::One { own, value } => {
-            if number == *own {
-                Some(value)
-            } else {
-                None
-            }
-        }
+        Node::One { own, value } => { if number == *own { Some(value) } else { None } }
         Node::Fork { here, odd, even } => {
             if number == 0 {
                 here.as_ref()

@@ -1,5 +1,5 @@
 use Rattle.std.proofs.Common.{ℕ, ◌+◌, ◌*◌}
-use Rattle.trace_log.proofs.table.+put.Given as goal
+use Rattle.trace_log.proofs.tables.table.+put.Given as goal
 
 abbrev pub decreases-put_beside : goal.decreases-put_beside
 decreases-put_beside g l = 4 * l.number + 1

@@ -1,5 +1,5 @@
 use Rattle.trace_log.proofs.TableLemmas.{fork-put-even, fork-put-odd}
-use Rattle.trace_log.proofs.table.+put.Goals as goal
+use Rattle.trace_log.proofs.tables.table.+put.Goals as goal
 
 pub put_fork-returns-in_ok-even-2 : goal.put_fork-returns-in_ok-even-2
 put_fork-returns-in_ok-even-2 g t c =
