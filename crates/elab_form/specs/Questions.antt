@@ -15,6 +15,7 @@ use Rattle.type_form.specs.contracts.tree.Ty as ty_row
 use Rattle.type_form.specs.contracts.tree.DeclPath as path_row
 use Rattle.type_form.specs.contracts.unit.Unit as unit_row
 use Rattle.question_runs.specs.Runs.{Setting}
+use Rattle.wasm_form.specs.declared.linked.FnCode.{FnCode}
 use Rattle.air_form.specs.Typed.{TypedBody}
 
 -- ---- what is asked
@@ -53,6 +54,8 @@ pub data UnitValue : Type 0 where
   error_set : (names : List (List ℕ)) → UnitValue
   -- of the fields of a container
   fields : Fields → UnitValue
+  -- of the code of an instance
+  code : FnCode → UnitValue
   -- of a block that is evaluated at comptime
   nothing : UnitValue
 

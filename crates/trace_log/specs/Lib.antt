@@ -1,4 +1,3 @@
-pub mod Questions
 pub mod Readings
 pub mod Tables
 pub mod TableStates

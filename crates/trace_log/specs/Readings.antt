@@ -7,7 +7,7 @@ use Rattle.zir_form.specs.Lines.{core_at}
 use Rattle.type_form.specs.declared.unit.Unit.{Unit as AnyUnit}
 use Rattle.type_form.specs.declared.unit.Unit.TheVariants as unit
 use Rattle.type_form.specs.Known.{Known}
-use Rattle.type_form.specs.Means.{IsTy, ty_at, IsValue, value_at, IsDecl, decl_at, IsInstance, instance_at, IsList, list_at, AreLists, lists_at}
+use Rattle.type_form.specs.Means.{IsTy, ty_at, IsValue, value_at, IsDecl, decl_at, IsInstance, instance_at, IsBytes, bytes_at, AreNames, names_at}
 use Rattle.air_form.specs.Denote.{IsBody, body_at}
 use Rattle.trace_log.specs.declared.question.TextPart.{TextPart}
 use Rattle.trace_log.specs.declared.question.TextPart.TheVariants as part
@@ -28,7 +28,7 @@ use Rattle.trace_log.specs.declared.answer.Answer.TheVariants as answer
 use Rattle.trace_log.specs.declared.trace.Move.{Move}
 use Rattle.trace_log.specs.declared.trace.Move.TheVariants as move
 use Rattle.question_runs.specs.Runs as runs
-use Rattle.trace_log.specs.Questions as plain
+use Rattle.elab_form.specs.Questions as plain
 
 -- ---- parts, units and questions
 
@@ -36,13 +36,13 @@ abbrev pub IsPart : Known → TextPart → Type 0
 IsPart k (part.Head i) = IsDecl k i
 IsPart k (part.Whole i) = IsDecl k i
 IsPart k (part.Fields i) = IsTy k i
-IsPart k (part.Block file number) = IsList k file
+IsPart k (part.Block file number) = IsBytes k file
 
 abbrev pub part_at : Known → TextPart → plain.TextPart
 part_at k (part.Head i) = plain.head (decl_at k i)
 part_at k (part.Whole i) = plain.whole (decl_at k i)
 part_at k (part.Fields i) = plain.TextPart.fields (ty_at k i)
-part_at k (part.Block file number) = plain.block (list_at k file) number
+part_at k (part.Block file number) = plain.block (bytes_at k file) number
 
 abbrev pub IsUnit : Known → UnitIndex → Type 0
 IsUnit k (index.Decl i) = IsDecl k i
@@ -50,7 +50,7 @@ IsUnit k (index.Body i) = IsInstance k i
 IsUnit k (index.ErrorSet i) = IsInstance k i
 IsUnit k (index.Fields i) = IsTy k i
 IsUnit k (index.Code i) = IsInstance k i
-IsUnit k (index.Comptime file number) = IsList k file
+IsUnit k (index.Comptime file number) = IsBytes k file
 
 abbrev pub unit_at : Known → UnitIndex → AnyUnit
 unit_at k (index.Decl i) = unit.Decl (decl_at k i)
@@ -58,18 +58,18 @@ unit_at k (index.Body i) = unit.Body (instance_at k i)
 unit_at k (index.ErrorSet i) = unit.ErrorSet (instance_at k i)
 unit_at k (index.Fields i) = unit.Fields (ty_at k i)
 unit_at k (index.Code i) = unit.Code (instance_at k i)
-unit_at k (index.Comptime file number) = unit.Comptime (list_at k file) number
+unit_at k (index.Comptime file number) = unit.Comptime (bytes_at k file) number
 
 abbrev pub IsQuestion : Known → Question → Type 0
 IsQuestion k (question.Text p) = IsPart k p
-IsQuestion k (question.Name c n) = IsTy k c × IsList k n
-IsQuestion k (question.Import path) = IsList k path
+IsQuestion k (question.Name c n) = IsTy k c × IsBytes k n
+IsQuestion k (question.Import path) = IsBytes k path
 IsQuestion k (question.Result u) = IsUnit k u
 
 abbrev pub question_at : Known → Question → plain.Question
 question_at k (question.Text p) = plain.text (part_at k p)
-question_at k (question.Name c n) = plain.name (ty_at k c) (list_at k n)
-question_at k (question.Import path) = plain.import (list_at k path)
+question_at k (question.Name c n) = plain.name (ty_at k c) (bytes_at k n)
+question_at k (question.Import path) = plain.import (bytes_at k path)
 question_at k (question.Result u) = plain.result (unit_at k u)
 
 -- ---- results
@@ -92,7 +92,7 @@ abbrev pub IsUnitValue : Known → UnitValue → Type 0
 IsUnitValue k (value.Constant i) = IsValue k i
 IsUnitValue k (value.Variable i) = IsValue k i
 IsUnitValue k (value.Body b) = IsBody k b
-IsUnitValue k (value.ErrorSet i) = AreLists k i
+IsUnitValue k (value.ErrorSet i) = AreNames k i
 IsUnitValue k (value.Fields f) = Unit {0}
 IsUnitValue k (value.Code c) = Unit {0}
 IsUnitValue k value.Nothing = Unit {0}
@@ -101,7 +101,7 @@ abbrev pub unit_value_at : Known → UnitValue → plain.UnitValue
 unit_value_at k (value.Constant i) = plain.constant (value_at k i)
 unit_value_at k (value.Variable i) = plain.variable (value_at k i)
 unit_value_at k (value.Body b) = plain.body (body_at k b)
-unit_value_at k (value.ErrorSet i) = plain.error_set (lists_at k i)
+unit_value_at k (value.ErrorSet i) = plain.error_set (names_at k i)
 unit_value_at k (value.Fields f) = plain.UnitValue.fields f
 unit_value_at k (value.Code c) = plain.code c
 unit_value_at k value.Nothing = plain.nothing
