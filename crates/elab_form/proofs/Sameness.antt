@@ -1,15 +1,21 @@
 -- The tests by which elaboration tells types, declarations, units and questions apart.
-use Rattle.std.proofs.Common.{◌≡◌, Bool, true, false, refl, sym, ap, ap₂, ◌∙◌}
+use Rattle.std.proofs.Common.{◌≡◌, ℕ, List, Bool, true, false, refl, sym, ap, ap₂, ◌∙◌}
 use Rattle.std.specs.Prelude.{◌==◌, ◌&&◌}
+use Rattle.std.specs.Str.{bytes_eq}
 use Rattle.std.proofs.lemmas.Bool.{eqb-true, eq-eqb}
+use Rattle.std.proofs.lemmas.Slice.Eq.{bytes_eq-Decides}
 use base.Stored.{Gv, gnil, gnum, gcons}
 use Rattle.type_form.specs.declared.index.Index.{Index}
 use Rattle.type_form.specs.declared.tree.Ty.{Ty}
+use Rattle.type_form.specs.declared.tree.DeclPath.{DeclPath}
+use Rattle.type_form.specs.declared.unit.Unit.{Unit as AnyUnit}
 use Rattle.type_form.specs.contracts.tree.Ty as ty_row
+use Rattle.type_form.specs.contracts.tree.DeclPath as path_row
+use Rattle.type_form.specs.contracts.unit.Unit as unit_row
 use Rattle.type_form.specs.Known.{Known, IsInjective}
 use Rattle.type_form.specs.Means.{IsTy, ty_at}
 use Rattle.type_form.proofs.LayerLemmas.{ty_at-injective}
-use Rattle.elab_form.specs.Questions.{same_code, same_ty}
+use Rattle.elab_form.specs.Questions.{TextPart, head, whole, block, Question, text, name, import, result, same_code, same_part, same_path, same_question, same_ty, same_unit}
 
 both-true : (a b : Bool) → (a && b) ≡ true → (a ≡ true) × (b ≡ true)
 both-true true true e = (refl, refl)
@@ -41,6 +47,62 @@ same_ty-self t = same_code-self (ty_row.the_row.coded.code t)
 pub same_ty-true : (s t : Ty) → same_ty s t ≡ true → s ≡ t
 unfolding same_ty
 same_ty-true s t e = ty_row.the_row.coded.inj s t (same_code-true (ty_row.the_row.coded.code s) (ty_row.the_row.coded.code t) e)
+
+-- ---- declarations, units and questions
+
+pub same_path-self : (d : DeclPath) → same_path d d ≡ true
+unfolding same_path
+same_path-self d = same_code-self (path_row.the_row.coded.code d)
+
+pub same_path-true : (d e : DeclPath) → same_path d e ≡ true → d ≡ e
+unfolding same_path
+same_path-true d e h = path_row.the_row.coded.inj d e (same_code-true (path_row.the_row.coded.code d) (path_row.the_row.coded.code e) h)
+
+pub same_unit-self : (u : AnyUnit) → same_unit u u ≡ true
+unfolding same_unit
+same_unit-self u = same_code-self (unit_row.the_row.coded.code u)
+
+pub same_unit-true : (u v : AnyUnit) → same_unit u v ≡ true → u ≡ v
+unfolding same_unit
+same_unit-true u v h = unit_row.the_row.coded.inj u v (same_code-true (unit_row.the_row.coded.code u) (unit_row.the_row.coded.code v) h)
+
+bytes-self : (a : List ℕ) → bytes_eq a a ≡ true
+bytes-self a = (bytes_eq-Decides a a).1 refl
+
+bytes-true : (a b : List ℕ) → bytes_eq a b ≡ true → a ≡ b
+bytes-true a b h = (bytes_eq-Decides a b).0 h
+
+same_part-self : (p : TextPart) → same_part p p ≡ true
+same_part-self (head d) = same_path-self d
+same_part-self (whole d) = same_path-self d
+same_part-self (TextPart.fields t) = same_ty-self t
+same_part-self (block f m) = ap₂ (λ x y. x && y) (bytes-self f) (eq-eqb m m refl)
+
+same_part-true : (p q : TextPart) → same_part p q ≡ true → p ≡ q
+same_part-true (head d) (head e) h = ap head (same_path-true d e h)
+same_part-true (whole d) (whole e) h = ap whole (same_path-true d e h)
+same_part-true (TextPart.fields s) (TextPart.fields t) h = ap TextPart.fields (same_ty-true s t h)
+same_part-true (block f m) (block g n) h =
+    let parts = both-true (bytes_eq f g) (m == n) h in
+    ap₂ block (bytes-true f g parts.0) (eqb-true m n parts.1)
+same_part-true _ _ h = absurd (cc)
+
+pub same_question-self : (q : Question) → same_question q q ≡ true
+unfolding same_question
+same_question-self (text p) = same_part-self p
+same_question-self (name c n) = ap₂ (λ x y. x && y) (same_ty-self c) (bytes-self n)
+same_question-self (import f) = bytes-self f
+same_question-self (result u) = same_unit-self u
+
+pub same_question-true : (p q : Question) → same_question p q ≡ true → p ≡ q
+unfolding same_question
+same_question-true (text p) (text q) h = ap text (same_part-true p q h)
+same_question-true (name c m) (name d n) h =
+    let parts = both-true (same_ty c d) (bytes_eq m n) h in
+    ap₂ name (same_ty-true c d parts.0) (bytes-true m n parts.1)
+same_question-true (import a) (import b) h = ap import (bytes-true a b h)
+same_question-true (result u) (result v) h = ap result (same_unit-true u v h)
+same_question-true _ _ h = absurd (cc)
 
 -- two tests that are true together are one
 pub true-together : (a b : Bool) → (a ≡ true → b ≡ true) → (b ≡ true → a ≡ true) → a ≡ b

@@ -1,2 +1,3 @@
 pub mod TableCases
 pub mod TableLemmas
+pub mod Sameness

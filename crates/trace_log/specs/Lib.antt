@@ -1,3 +1,4 @@
 pub mod Readings
 pub mod Tables
 pub mod TableStates
+pub mod Traces

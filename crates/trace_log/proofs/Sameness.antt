@@ -1,0 +1,84 @@
+-- Parts, units and questions are one exactly where their indices are, and then they stand for the same.
+use Rattle.std.proofs.Common.{◌≡◌, ℕ, ◌==◌, Bool, true, false, ◌&&◌, Some, None, Option, List, [], ◌∷◌, ◌++◌, refl, sym, ap, ap₂, ◌∙◌, if◌then◌else◌}
+use Rattle.std.specs.Option.{option_map}
+use Rattle.std.proofs.lemmas.Bool.{eqb-true, eq-eqb}
+use Rattle.type_form.specs.declared.index.Index.{Index}
+use Rattle.type_form.specs.Known.{Known, IsInjective}
+use Rattle.type_form.proofs.LayerLemmas.{ty_at-injective, decl_at-injective, instance_at-injective}
+use Rattle.question_runs.specs.Runs as runs
+use Rattle.elab_form.specs.Questions as plain
+use Rattle.elab_form.proofs.Sameness.{same_question-self as plain-self, same_question-true as plain-true, true-together}
+use Rattle.trace_log.specs.declared.answer.Answer.{Answer}
+use Rattle.trace_log.specs.declared.question.TextPart.{TextPart}
+use Rattle.trace_log.specs.declared.question.TextPart.TheVariants as part
+use Rattle.trace_log.specs.declared.question.UnitIndex.{UnitIndex}
+use Rattle.trace_log.specs.declared.question.UnitIndex.TheVariants as unit
+use Rattle.trace_log.specs.declared.question.Question.{Question}
+use Rattle.trace_log.specs.declared.question.Question.TheVariants as question
+use Rattle.trace_log.specs.declared.trace.Move.{Move}
+use Rattle.trace_log.specs.declared.trace.Move.TheVariants as move
+use Rattle.trace_log.specs.Readings.{IsPart, part_at, IsUnit, unit_at, IsQuestion, question_at, AreMoves, LinesOf, answer_at, moves_at}
+use Rattle.trace_log.specs.TableStates.{same_part, same_unit, same_question}
+use Rattle.trace_log.specs.Traces.{recall}
+
+both-true : (a b : Bool) → (a && b) ≡ true → (a ≡ true) × (b ≡ true)
+both-true true true e = (refl, refl)
+both-true true false e = absurd (cc)
+both-true false b e = absurd (cc)
+
+index-true : (i j : Index) → (i.0 == j.0) ≡ true → i ≡ j
+index-true i j e = ap (λ n. record { 0 = n }) (eqb-true i.0 j.0 e)
+
+index-self : (i : Index) → (i.0 == i.0) ≡ true
+index-self i = eq-eqb i.0 i.0 refl
+
+-- ---- by their indices
+
+same_part-self : (p : TextPart) → same_part p p ≡ true
+same_part-self (part.Head i) = index-self i
+same_part-self (part.Whole i) = index-self i
+same_part-self (part.Fields i) = index-self i
+same_part-self (part.Block file n) = ap₂ (λ x y. x && y) (index-self file) (eq-eqb n n refl)
+
+same_part-true : (p q : TextPart) → same_part p q ≡ true → p ≡ q
+same_part-true (part.Head i) (part.Head j) e = ap part.Head (index-true i j e)
+same_part-true (part.Whole i) (part.Whole j) e = ap part.Whole (index-true i j e)
+same_part-true (part.Fields i) (part.Fields j) e = ap part.Fields (index-true i j e)
+same_part-true (part.Block f m) (part.Block g n) e =
+    let parts = both-true (f.0 == g.0) (m == n) e in
+    ap₂ part.Block (index-true f g parts.0) (eqb-true m n parts.1)
+same_part-true _ _ e = absurd (cc)
+
+pub same_unit-self : (u : UnitIndex) → same_unit u u ≡ true
+same_unit-self (unit.Decl i) = index-self i
+same_unit-self (unit.Body i) = index-self i
+same_unit-self (unit.ErrorSet i) = index-self i
+same_unit-self (unit.Fields i) = index-self i
+same_unit-self (unit.Code i) = index-self i
+same_unit-self (unit.Comptime file n) = ap₂ (λ x y. x && y) (index-self file) (eq-eqb n n refl)
+
+pub same_unit-true : (u v : UnitIndex) → same_unit u v ≡ true → u ≡ v
+same_unit-true (unit.Decl i) (unit.Decl j) e = ap unit.Decl (index-true i j e)
+same_unit-true (unit.Body i) (unit.Body j) e = ap unit.Body (index-true i j e)
+same_unit-true (unit.ErrorSet i) (unit.ErrorSet j) e = ap unit.ErrorSet (index-true i j e)
+same_unit-true (unit.Fields i) (unit.Fields j) e = ap unit.Fields (index-true i j e)
+same_unit-true (unit.Code i) (unit.Code j) e = ap unit.Code (index-true i j e)
+same_unit-true (unit.Comptime f m) (unit.Comptime g n) e =
+    let parts = both-true (f.0 == g.0) (m == n) e in
+    ap₂ unit.Comptime (index-true f g parts.0) (eqb-true m n parts.1)
+same_unit-true _ _ e = absurd (cc)
+
+pub same_question-self : (q : Question) → same_question q q ≡ true
+same_question-self (question.Text p) = same_part-self p
+same_question-self (question.Name c n) = ap₂ (λ x y. x && y) (index-self c) (index-self n)
+same_question-self (question.Import path) = index-self path
+same_question-self (question.Result u) = same_unit-self u
+
+pub same_question-true : (p q : Question) → same_question p q ≡ true → p ≡ q
+same_question-true (question.Text p) (question.Text q) e = ap question.Text (same_part-true p q e)
+same_question-true (question.Name c m) (question.Name d n) e =
+    let parts = both-true (c.0 == d.0) (m.0 == n.0) e in
+    ap₂ question.Name (index-true c d parts.0) (index-true m n parts.1)
+same_question-true (question.Import i) (question.Import j) e = ap question.Import (index-true i j e)
+same_question-true (question.Result u) (question.Result v) e = ap question.Result (same_unit-true u v e)
+same_question-true _ _ e = absurd (cc)
