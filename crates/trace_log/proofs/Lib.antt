@@ -1,3 +1,4 @@
 pub mod TableCases
 pub mod TableLemmas
 pub mod Sameness
+pub mod TraceLemmas

@@ -15,4 +15,4 @@ pub use question::{Question, TextPart, UnitIndex};
 pub use result::{Diagnostic, Spot, UnitResult, UnitValue};
 pub use shared::Shared;
 pub use tables::{PairTable, PartTable, QuestionTable, Table, UnitTable};
-pub use trace::Move;
+pub use trace::{Move, Trace};
