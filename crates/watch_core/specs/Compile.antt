@@ -98,7 +98,7 @@ start_of tokens n = start_of_some (slice_get tokens n)
 
 -- the diagnostics of a file's names and builtins
 abbrev pub name_faults : List ℕ → List Token → List Node → ℕ → List Found
-name_faults text tokens nodes root = scope_faults text tokens nodes root ++ builtin_faults text tokens nodes
+name_faults text tokens nodes root = scope_faults text tokens nodes root ++ builtin_faults text tokens nodes root
 
 -- one of them in its place
 abbrev pub scope_line : List ℕ → List ℕ → Found → Line

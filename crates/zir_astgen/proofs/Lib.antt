@@ -16,7 +16,7 @@ pub mod MeantLemmas
 pub mod HeldLemmas
 pub mod CountLemmas
 pub mod EntryLemmas
-pub mod FileLemmas
+pub mod CallLemmas
 pub mod WalkLemmas
 pub mod RowLemmas
 pub mod DeclareLemmas

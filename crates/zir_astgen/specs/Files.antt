@@ -1,6 +1,6 @@
 -- The core tree of a file: its declarations, containers and blocks, each with its trees, and its imports.
 use Rattle.std.specs.Prelude.{ℕ, ◌&&◌, nat_eq, List, [], ◌∷◌, ◌++◌, codes, slice_get, Option, Some, None, if◌then◌else◌}
-use Rattle.std.specs.Str.{bytes_eq}
+use Rattle.std.specs.List.{filter_map}
 use Rattle.zig_tree.specs.declared.token.Token.{Token}
 use Rattle.zig_tree.specs.declared.token.TokenKind.{TokenKind}
 use Rattle.zig_tree.specs.declared.token.TokenKind.TheVariants as kind
@@ -16,7 +16,10 @@ use Rattle.zir_scope.specs.Facts.{facts_of}
 use Rattle.zir_scope.specs.Findings.{scoped, span_of}
 use Rattle.zir_scope.specs.Syntax.{Syntax, nothing, word, node, row_at, rows_of}
 use Rattle.zir_astgen.specs.Values.{string_value}
-use Rattle.zir_astgen.specs.Names.{string_in}
+use Rattle.zir_astgen.specs.Calls.{calls_in}
+use Rattle.zir_astgen.specs.declared.calls.BuiltinCall.{BuiltinCall}
+use Rattle.zir_astgen.specs.declared.calls.BuiltinCall.TheVariants as call
+use Rattle.zir_astgen.specs.declared.calls.Called.{Called}
 use Rattle.zir_astgen.specs.Outline.{Entry, Where, contains_there, declares_there, entries, in_file, own_locals}
 use Rattle.zir_astgen.specs.Parts.{begins_with, has_word, lead_of}
 use Rattle.zir_astgen.specs.Site.{File, Site, bytes_of_name, captures_from, written_at}
@@ -156,27 +159,18 @@ blocks_of f (contains_there w inside ∷ more) = blocks_of f more
 
 -- ---- imports
 
--- the string of an `@import`, behind its builtin
-unfoldable pub imported_text : Syntax → Option ℕ
-imported_text nothing = None
-imported_text (word t k more) = imported_text more
-imported_text (node r inside more) = if is_rule r rule.Atom then string_in inside else None
+-- the `@import` that a call is, with where it stands and the path that it names
+abbrev pub import_by : File → ℕ → BuiltinCall → Option Import
+import_by f t (call.Import string) = Some (record { start = start_of f t; path = string_value (written_at f string) })
+import_by f t (call.Wrong code) = None
+import_by f t call.Other = None
 
-abbrev pub import_with : File → ℕ → Option ℕ → List Import
-import_with f t None = []
-import_with f t (Some u) = record { start = start_of f t; path = string_value (written_at f u) } ∷ []
+unfoldable pub import_at : File → Called → Option Import
+import_at f c = import_by f c.token c.call
 
-unfoldable pub import_at : File → Syntax → List Import
-import_at f nothing = []
-import_at f (word t k more) = if bytes_eq (written_at f t) (codes "@import") then import_with f t (imported_text more) else []
-import_at f (node r inside more) = []
-
--- the `@import`s of a row, each with where it stands
+-- the `@import`s of a row
 unfoldable pub imports_of : File → Syntax → List Import
-imports_of f nothing = []
-imports_of f (word t k more) = imports_of f more
-imports_of f (node r inside more) =
-    (if is_rule r rule.Atom then import_at f inside else []) ++ imports_of f inside ++ imports_of f more
+imports_of f row = filter_map (import_at f) (calls_in f.text f.tokens row)
 
 -- ---- the file
 

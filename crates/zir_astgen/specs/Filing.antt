@@ -1,15 +1,10 @@
 -- What a file's tables and the places of its parts are to the definitions.
-use Rattle.std.specs.Prelude.{List, [], ◌++◌, map, if◌then◌else◌}
-use Rattle.zig_tree.specs.declared.grammar.Rule.{Rule}
-use Rattle.zig_tree.specs.declared.grammar.Rule.TheVariants as rule
-use Rattle.zig_tree.specs.Kinds.{is_rule}
+use Rattle.std.specs.Prelude.{List, map}
 use Rattle.zir_form.specs.File.{Import}
 use Rattle.zir_form.specs.Tables.{import_of}
 use Rattle.zir_form.specs.declared.table.ImportRow.{ImportRow}
-use Rattle.zir_scope.specs.Syntax.{Syntax}
 use Rattle.zir_astgen.specs.declared.file.FileSource.{FileSource}
 use Rattle.zir_astgen.specs.declared.file.Location.{Location}
-use Rattle.zir_astgen.specs.Files.{import_at, imports_of}
 use Rattle.zir_astgen.specs.Outline.{Where}
 use Rattle.zir_astgen.specs.Site.{File}
 
@@ -24,11 +19,3 @@ where_of l = record { container = l.container; around = l.around.now; owner = l.
 -- the `@import`s of rows
 abbrev pub imported : List ImportRow → List Import
 imported rows = map import_of rows
-
--- the `@import` that a node is by itself
-abbrev pub import_by : File → Rule → Syntax → List Import
-import_by f r inside = if is_rule r rule.Atom then import_at f inside else []
-
--- the `@import`s of a node
-unfoldable pub node_imports : File → Rule → Syntax → List Import
-node_imports f r inside = import_by f r inside ++ imports_of f inside

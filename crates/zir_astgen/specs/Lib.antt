@@ -1,5 +1,4 @@
 pub mod Asking
-pub mod Builtins
 pub mod Calls
 pub mod Numbers
 pub mod TokenValues

@@ -1,17 +1,17 @@
 -- Names, literals and calls: what an atom stands for, and what is asked of it.
-use Rattle.std.specs.Prelude.{ℕ, Bool, true, false, List, [], ◌∷◌, ◌++◌, codes, slice_index_or, Option, Some, None, if◌then◌else◌}
-use Rattle.std.specs.Str.{bytes_eq}
+use Rattle.std.specs.Prelude.{ℕ, Bool, true, false, List, [], ◌∷◌, ◌++◌, slice_index_or, Option, Some, None, if◌then◌else◌}
 use Rattle.zig_tree.specs.declared.token.TokenKind.{TokenKind}
 use Rattle.zig_tree.specs.declared.token.TokenKind.TheVariants as kind
 use Rattle.zig_tree.specs.declared.grammar.Rule.TheVariants as rule
 use Rattle.zig_tree.specs.Kinds.{is_kind, is_rule}
-use Rattle.zir_form.specs.declared.operator.Builtin.{Builtin}
+use Rattle.zir_form.specs.declared.builtin.BuiltinFn.{BuiltinFn}
+use Rattle.zir_form.specs.Builtins.{builtin_fn}
 use Rattle.zir_form.specs.Core.{Core, cores_of}
 use Rattle.zir_form.specs.Core as core
 use Rattle.zir_scope.specs.Syntax.{Syntax, nothing, word, node}
 use Rattle.zir_astgen.specs.Numbers.{int_value, char_value}
 use Rattle.zir_astgen.specs.Values.{string_value, multiline_value}
-use Rattle.zir_astgen.specs.Operators.{builtin_of}
+use Rattle.zir_astgen.specs.Calls.{is_import, string_in}
 use Rattle.zir_astgen.specs.Parts.{Parts, ended, token, part, all_trees, first_tree, token_in, has_token}
 use Rattle.zir_astgen.specs.Site.{File, Site, offset, written_at, bytes_of_name, named}
 
@@ -26,17 +26,6 @@ names_in f ended = []
 names_in f (token t k more) = if is_kind k kind.Identifier then bytes_of_name f t ∷ names_in f more else names_in f more
 names_in f (part r inside first tree more) = names_in f more
 
--- the token of a string on one line that is all that a row holds
-abbrev pub string_alone : ℕ → TokenKind → Syntax → Option ℕ
-string_alone t k nothing = if is_kind k kind.Str then Some t else None
-string_alone t k (word u m more) = None
-string_alone t k (node r inside more) = None
-
-unfoldable pub string_in : Syntax → Option ℕ
-string_in nothing = None
-string_in (word t k more) = string_alone t k more
-string_in (node r inside more) = None
-
 -- of the first node of a row, where that is an atom
 unfoldable pub string_argument : Parts → Option ℕ
 string_argument ended = None
@@ -48,15 +37,14 @@ abbrev pub import_of : File → ℕ → Option ℕ → Core
 import_of f p None = core.missing
 import_of f p (Some t) = core.import p (string_value (written_at f t))
 
--- another builtin with its arguments ("Builtin Functions")
-abbrev pub builtin_by : ℕ → Option Builtin → List Core → Core
-builtin_by p None arguments = core.missing
-builtin_by p (Some b) arguments = core.builtin p b (cores_of arguments)
+-- a builtin with its arguments ("Builtin Functions")
+abbrev pub builtin_by : File → ℕ → Option BuiltinFn → Parts → Core
+builtin_by f p None arguments = core.missing
+builtin_by f p (Some b) arguments =
+    if is_import b.builtin then import_of f p (string_argument arguments) else core.builtin p b.builtin (cores_of (all_trees arguments))
 
 unfoldable pub builtin_call : File → Site → ℕ → Parts → Core
-builtin_call f s t arguments =
-    if bytes_eq (written_at f t) (codes "@import") then import_of f (offset f s t) (string_argument arguments)
-    else builtin_by (offset f s t) (builtin_of (written_at f t)) (all_trees arguments)
+builtin_call f s t arguments = builtin_by f (offset f s t) (builtin_fn (written_at f t)) arguments
 
 -- `.name`, or the values of a container whose type the place of use gives
 unfoldable pub dot_atom : File → ℕ → Parts → Core

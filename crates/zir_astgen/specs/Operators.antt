@@ -1,15 +1,11 @@
--- Operators and builtins by what they are written as.
-use Rattle.std.specs.Prelude.{ℕ, List, [], ◌∷◌, codes, map, Option, Some, None, if◌then◌else◌}
-use Rattle.std.specs.Borrow.{Bor}
-use Rattle.std.specs.Str.{bytes_eq}
+-- Operators by what they are written as.
+use Rattle.std.specs.Prelude.{Option, Some, None}
 use Rattle.zig_tree.specs.declared.token.TokenKind.{TokenKind}
 use Rattle.zig_tree.specs.declared.token.TokenKind.TheVariants as kind
 use Rattle.zir_form.specs.declared.operator.BinaryOperator.{BinaryOperator}
 use Rattle.zir_form.specs.declared.operator.BinaryOperator.TheVariants as binary
 use Rattle.zir_form.specs.declared.operator.UnaryOperator.{UnaryOperator}
 use Rattle.zir_form.specs.declared.operator.UnaryOperator.TheVariants as unary
-use Rattle.zir_form.specs.declared.operator.Builtin.{Builtin}
-use Rattle.zir_form.specs.declared.operator.Builtin.TheVariants as builtin
 
 -- an operator between two operands, also as it leads an assignment
 unfoldable pub binary_of : TokenKind → Option BinaryOperator
@@ -65,52 +61,3 @@ unary_of kind.Minus = Some unary.Negate
 unary_of kind.MinusPercent = Some unary.NegateWrap
 unary_of kind.Tilde = Some unary.Complement
 unary_of _ = None
-
--- a row: the name, and the builtin
-abbrev pub Row : Type 0
-Row = List ℕ × Builtin
-
-abbrev pub named_builtins : List Row
-named_builtins =
-    (codes "@import", builtin.Import)
-    ∷ (codes "@This", builtin.This)
-    ∷ (codes "@TypeOf", builtin.TypeOf)
-    ∷ (codes "@as", builtin.As)
-    ∷ (codes "@sizeOf", builtin.SizeOf)
-    ∷ (codes "@alignOf", builtin.AlignOf)
-    ∷ (codes "@bitSizeOf", builtin.BitSizeOf)
-    ∷ (codes "@hasDecl", builtin.HasDecl)
-    ∷ (codes "@hasField", builtin.HasField)
-    ∷ (codes "@field", builtin.Field)
-    ∷ (codes "@compileError", builtin.CompileError)
-    ∷ (codes "@setEvalBranchQuota", builtin.SetEvalBranchQuota)
-    ∷ (codes "@panic", builtin.Panic)
-    ∷ (codes "@trap", builtin.Trap)
-    ∷ (codes "@intFromBool", builtin.IntFromBool)
-    ∷ (codes "@intFromEnum", builtin.IntFromEnum)
-    ∷ (codes "@divTrunc", builtin.DivTrunc)
-    ∷ (codes "@divFloor", builtin.DivFloor)
-    ∷ (codes "@rem", builtin.Rem)
-    ∷ (codes "@mod", builtin.Mod)
-    ∷ (codes "@min", builtin.Min)
-    ∷ (codes "@max", builtin.Max)
-    ∷ (codes "@clz", builtin.Clz)
-    ∷ (codes "@ctz", builtin.Ctz)
-    ∷ (codes "@popCount", builtin.PopCount)
-    ∷ (codes "@intCast", builtin.IntCast)
-    ∷ (codes "@truncate", builtin.Truncate)
-    ∷ (codes "@bitCast", builtin.BitCast)
-    ∷ (codes "@enumFromInt", builtin.EnumFromInt)
-    ∷ []
-
--- the rows of the program's table, as rows of this one
-abbrev pub written : List (Bor (List ℕ) × Builtin) → List Row
-written rows = map (λ row. (row.0.now, row.1)) rows
-
--- the builtin that the row of a name has
-unfoldable pub builtin_in : List Row → List ℕ → Option Builtin
-builtin_in [] name = None
-builtin_in (row ∷ more) name = if bytes_eq row.0 name then Some row.1 else builtin_in more name
-
-unfoldable pub builtin_of : List ℕ → Option Builtin
-builtin_of name = builtin_in named_builtins name

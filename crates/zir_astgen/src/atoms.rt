@@ -11,14 +11,14 @@ ghost use Rattle.zir_astgen.specs.Site.{offset, written_at};
 ghost use Rattle.zir_astgen.specs.Values.{multiline_value, string_value};
 ghost use Rattle.zir_astgen.specs.Writing.{file, parts, site, trees};
 
-use crate::operators::builtin_of;
+use crate::calls::is_import;
 use crate::piece::Piece;
 use crate::values::{char_value, int_value, multiline_value, string_value};
 use crate::words::string_in;
 use crate::writer::{ABSENT, MISSING, Writer};
 use std::alloc::AllocError;
 use zig_tree::{Rule, TokenKind, same_kind, same_rule};
-use zir_form::{Builtin, Form};
+use zir_form::{BuiltinFn, Form, builtin_fn};
 use zw_base::{Bytes, Seq};
 
 impl Writer<'_> {
@@ -81,19 +81,28 @@ impl Writer<'_> {
         }
     }
 
-    /// Another builtin with its arguments.
+    /// A builtin with its arguments.
     #[tactic(auto, unfolding(zir_form::specs::Lines::over_cores))]
     fn builtin_by(
         &mut self,
         place: u32,
-        builtin: Option<Builtin>,
+        called: Option<BuiltinFn>,
         arguments: &[Piece],
     ) -> Result<u32, AllocError>
-        ensures tree { IfOk result (Adds (trees self.old) (trees self.new) (spec.builtin_by place builtin (all_trees (parts self.old arguments.now)))) }
+        ensures tree { IfOk result (Adds (trees self.old) (trees self.new) (spec.builtin_by (file self.old) place called (parts self.old arguments.now))) }
         ensures source { self.new.source ≡ self.old.source }
     {
-        match builtin {
-            Some(builtin) => {
+        match called {
+            Some(
+                BuiltinFn {
+                    builtin,
+                    parameters: _,
+                },
+            ) => {
+                if is_import(builtin) {
+                    let path = self.string_argument(arguments);
+                    return self.import_of(place, path);
+                }
                 let arguments = self.all_lines(arguments)?;
                 self.put(Form::Builtin {
                     place,
@@ -112,14 +121,8 @@ impl Writer<'_> {
         ensures source { self.new.source ≡ self.old.source }
     {
         let place = self.offset(token);
-        let name = self.written_at(token);
-        if name == b"@import".as_slice() {
-            let path = self.string_argument(arguments);
-            self.import_of(place, path)
-        } else {
-            let builtin = builtin_of(name);
-            self.builtin_by(place, builtin, arguments)
-        }
+        let called = builtin_fn(self.written_at(token));
+        self.builtin_by(place, called, arguments)
     }
 
     /// `.name`, or values of a container whose type the place of use gives.

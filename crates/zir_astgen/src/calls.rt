@@ -1,14 +1,36 @@
-// Calls of builtins.
-ghost use Rattle.std.specs.Prelude.{◌≡◌, ◌++◌, IfOk, OnOk, slice_get};
+// Calls of builtins: which are wrong, and which name a file.
+ghost use Rattle.std.specs.Prelude.{◌≡◌, ◌++◌, true, IfOk, OnOk, Some, None};
+ghost use Rattle.std.specs.List.{filter_map};
+ghost use Rattle.zig_tree.specs.Nodes.{are_earlier};
 ghost use Rattle.zir_astgen.specs.Calls as spec;
-ghost use Rattle.zir_scope.specs.Syntax.{kind_at};
+ghost use Rattle.zir_scope.specs.Syntax.{inside_of, kind_at, row_in, rule_at};
 
-use crate::builtins::argument_count;
+use crate::file::FileSource;
+use crate::rows::rule_at;
+use crate::words::string_in;
 use std::alloc::{AllocError, Global};
-use zig_tree::{Kid, Node, Rule, Token, TokenKind, same_kind, same_rule};
-use zir_form::token_bytes;
-use zir_scope::found_at;
+use zig_tree::{Kid, Rule, Token, TokenKind, same_kind, same_rule};
+use zir_form::{Builtin, BuiltinFn, builtin_fn, token_bytes};
+use zir_scope::{Outline, found_at};
 use zw_base::{DiagCode, Found};
+
+/// What a call of a builtin is.
+#[derive(Clone, Copy, Debug)]
+pub enum BuiltinCall {
+    /// Wrong, by this code: there is no such builtin, or its arguments don't fit.
+    Wrong(DiagCode),
+    /// An `@import` of the string at this token.
+    Import(u32),
+    /// Another call.
+    Other,
+}
+
+/// A call of a builtin, at the token of its name.
+#[derive(Clone, Copy, Debug)]
+pub struct Called {
+    pub token: u32,
+    pub call: BuiltinCall,
+}
 
 /// The kind of a token; one that isn't there ends the file.
 pub fn kind_at(tokens: &[Token], token: u32) -> TokenKind
@@ -31,9 +53,9 @@ pub fn bytes_at<'a>(text: &'a [u8], tokens: &[Token], token: u32) -> &'a [u8]
 }
 
 /// How many nodes stand in a row: the arguments of a call.
-#[tactic(auto, unfolding(crate::specs::Calls::node_count))]
-fn node_count(row: &[Kid]) -> usize
-    ensures { result ≡ spec.node_count row.now }
+#[tactic(auto, unfolding(crate::specs::Calls::node_count, zir_scope::specs::Syntax::row_in))]
+fn node_count(outline: &Outline<'_>, row: &[Kid]) -> usize
+    ensures { result ≡ spec.node_count (row_in outline.now row.now) }
 {
     let mut count = 0;
     let mut rest = row;
@@ -46,115 +68,154 @@ fn node_count(row: &[Kid]) -> usize
     count
 }
 
-/// Whether a row is one string literal on one line.
-fn is_string(tokens: &[Token], row: &[Kid]) -> bool
-    ensures { result ≡ spec.is_string tokens.now row.now }
-{
-    match row {
-        [Kid::Token(token)] => same_kind(kind_at(tokens, *token), TokenKind::Str),
-        _ => false,
-    }
-}
-
-/// Whether a node is one string literal.
-#[tactic(auto, unfolding(crate::specs::Calls::is_literal_node))]
-fn is_literal_node(tokens: &[Token], nodes: &[Node], node: u32) -> bool
-    ensures { result ≡ spec.is_literal_node tokens.now (slice_get nodes.now node) }
-{
-    match nodes.get(node as usize) {
-        Some(node) => {
-            same_rule(node.rule, Rule::Atom) && is_string(tokens, node.kids.as_slice())
-        }
-        None => false,
-    }
-}
-
-/// Whether the first node of a row is one string literal.
-#[tactic(auto, unfolding(crate::specs::Calls::is_literal))]
-fn is_literal(tokens: &[Token], nodes: &[Node], row: &[Kid]) -> bool
-    ensures { result ≡ spec.is_literal tokens.now nodes.now row.now }
+/// The string literal that the first node of a row is.
+#[tactic(auto, unfolding(crate::specs::Calls::first_string, zir_scope::specs::Syntax::row_in, zir_scope::specs::Syntax::inside_of))]
+fn first_string(outline: &Outline<'_>, row: &[Kid]) -> Option<u32>
+    ensures { result ≡ spec.first_string (row_in outline.now row.now) }
 {
     let mut rest = row;
     while let [kid, more @ ..] = rest {
         match *kid {
             Kid::Token(_) => rest = more,
-            Kid::Node(node) => return is_literal_node(tokens, nodes, node),
+            Kid::Node(node) => {
+                return if same_rule(rule_at(outline, node), Rule::Atom) {
+                    string_in(outline, outline.kids(node))
+                } else {
+                    None
+                };
+            }
         }
     }
-    false
+    None
 }
 
-/// What is wrong with a call, by how many arguments are wanted and given.
-fn judged(wanted: Option<u32>, count: usize, wrong: bool) -> Option<DiagCode>
-    ensures { result ≡ spec.judged wanted count wrong }
+/// Whether a builtin is `@import`.
+pub fn is_import(builtin: Builtin) -> bool
+    ensures { result ≡ spec.is_import builtin }
 {
-    match wanted {
-        Some(wanted) if wanted as usize == count => {
-            if wrong {
-                Some(DiagCode::ImportNeedsString)
+    matches!(builtin, Builtin::Import)
+}
+
+/// An `@import` with this string literal as its argument, or with none.
+fn import_call(string: Option<u32>) -> BuiltinCall
+    ensures { result ≡ spec.import_call string }
+{
+    match string {
+        Some(string) => BuiltinCall::Import(string),
+        None => BuiltinCall::Wrong(DiagCode::ImportNeedsString),
+    }
+}
+
+/// What a call is, by its builtin and its arguments.
+fn call_of(outline: &Outline<'_>, called: Option<BuiltinFn>, arguments: &[Kid]) -> BuiltinCall
+    ensures { result ≡ spec.call_of called (row_in outline.now arguments.now) }
+{
+    match called {
+        Some(called) if called.parameters as usize == node_count(outline, arguments) => {
+            if is_import(called.builtin) {
+                import_call(first_string(outline, arguments))
             } else {
-                None
+                BuiltinCall::Other
             }
         }
-        _ => Some(DiagCode::WrongBuiltin),
+        _ => BuiltinCall::Wrong(DiagCode::WrongBuiltin),
     }
 }
 
-/// What is wrong with a call of the builtin at a token.
+impl FileSource<'_> {
+    /// The call that an atom is, if it is one.
+    #[tactic(auto, unfolding(crate::specs::Calls::atom_calls, zir_scope::specs::Syntax::row_in))]
+    fn atom_calls(&self, row: &[Kid], calls: &mut Vec<Called>) -> Result<(), AllocError>
+        ensures { OnOk result (calls.new.items ≡ calls.old.items ++ spec.atom_calls self.now.text.now self.now.outline.now.tokens.now (row_in self.now.outline.now row.now)) }
+    {
+        let tokens = self.outline.tokens;
+        match row {
+            [Kid::Token(token), arguments @ ..] => {
+                if same_kind(kind_at(tokens, *token), TokenKind::Builtin) {
+                    let called = builtin_fn(bytes_at(self.text, tokens, *token));
+                    calls.push(Called {
+                        token: *token,
+                        call: call_of(self.outline, called, arguments),
+                    })?;
+                }
+                Ok(())
+            }
+            [Kid::Node(_), ..] => Ok(()),
+            [] => Ok(()),
+        }
+    }
+
+    /// The call that a node is by itself, if it is one.
+    fn calls_at(&self, node: u32, calls: &mut Vec<Called>) -> Result<(), AllocError>
+        ensures { OnOk result (calls.new.items ≡ calls.old.items ++ spec.calls_at self.now.text.now self.now.outline.now.tokens.now (rule_at self.now.outline.now.nodes.now node) (inside_of self.now.outline.now node)) }
+    {
+        if same_rule(rule_at(self.outline, node), Rule::Atom) {
+            self.atom_calls(self.outline.kids(node), calls)
+        } else {
+            Ok(())
+        }
+    }
+
+    /// The calls of a node.
+    #[cycle(calls)]
+    #[tactic(auto, unfolding(crate::specs::Calls::node_calls))]
+    fn node_calls(&self, node: u32, calls: &mut Vec<Called>) -> Result<(), AllocError>
+        ensures { OnOk result (calls.new.items ≡ calls.old.items ++ spec.node_calls self.now.text.now self.now.outline.now.tokens.now (rule_at self.now.outline.now.nodes.now node) (inside_of self.now.outline.now node)) }
+    {
+        self.calls_at(node, calls)?;
+        self.calls_in(self.outline.kids(node), node, calls)
+    }
+
+    /// The calls of builtins in a row, in the order of the text. It goes no deeper than the tree.
+    #[cycle(calls)]
+    #[tactic(auto, using(zir_scope::proofs::Trees::earlier_steps), unfolding(zir_scope::specs::Syntax::row_in, zir_scope::specs::Syntax::inside_of))]
+    pub fn calls_in(
+        &self,
+        row: &[Kid],
+        before: u32,
+        calls: &mut Vec<Called>,
+    ) -> Result<(), AllocError>
+        requires { are_earlier before row.now ≡ true }
+        ensures { OnOk result (calls.new.items ≡ calls.old.items ++ spec.calls_in self.now.text.now self.now.outline.now.tokens.now (row_in self.now.outline.now row.now)) }
+    {
+        let mut rest = row;
+        while let [kid, more @ ..] = rest {
+            match *kid {
+                Kid::Token(_) => {}
+                Kid::Node(node) => self.node_calls(node, calls)?,
+            }
+            rest = more;
+        }
+        Ok(())
+    }
+}
+
+/// What is wrong with a call, if anything is.
 #[tactic(auto, unfolding(crate::specs::Calls::call_fault))]
-fn call_fault(
-    text: &[u8],
-    tokens: &[Token],
-    nodes: &[Node],
-    token: u32,
-    args: &[Kid],
-) -> Option<DiagCode>
-    ensures { result ≡ spec.call_fault text.now tokens.now nodes.now token args.now }
+fn call_fault(alloc: Global, tokens: &[Token], called: Called) -> Option<Found>
+    ensures { result ≡ spec.call_fault tokens.now called }
 {
-    let name = bytes_at(text, tokens, token);
-    let wrong = name == b"@import".as_slice() && !is_literal(tokens, nodes, args);
-    judged(argument_count(name), node_count(args), wrong)
-}
-
-/// What is wrong with an atom.
-#[tactic(auto, unfolding(crate::specs::Calls::atom_faults))]
-fn judge(
-    alloc: Global,
-    text: &[u8],
-    tokens: &[Token],
-    nodes: &[Node],
-    row: &[Kid],
-    found: &mut Vec<Found>,
-) -> Result<(), AllocError>
-    ensures { OnOk result (found.new.items ≡ found.old.items ++ spec.atom_faults text.now tokens.now nodes.now row.now) }
-{
-    if let [Kid::Token(token), args @ ..] = row {
-        if same_kind(kind_at(tokens, *token), TokenKind::Builtin) {
-            if let Some(code) = call_fault(text, tokens, nodes, *token, args) {
-                found.push(found_at(alloc, tokens, code, *token))?;
-            }
-        }
+    match called.call {
+        BuiltinCall::Wrong(code) => Some(found_at(alloc, tokens, code, called.token)),
+        BuiltinCall::Import(_) => None,
+        BuiltinCall::Other => None,
     }
-    Ok(())
 }
 
-/// What is wrong with the builtins of a file: a name that is none or a wrong number of arguments (E207),
-/// and an `@import` of anything but one string literal (E206). `tokens` and `nodes` are those of the
-/// text; the diagnostics come in the order of the nodes.
-#[tactic(auto, unfolding(crate::specs::Calls::builtin_faults, crate::specs::Calls::faults_from))]
-pub fn builtin_faults(
+/// What is wrong with calls: a name that is no builtin or a wrong number of arguments (E207), and an
+/// `@import` of anything but one string literal (E206).
+pub fn call_faults(
     alloc: Global,
-    text: &[u8],
     tokens: &[Token],
-    nodes: &[Node],
+    calls: &[Called],
 ) -> Result<Vec<Found>, AllocError>
-    ensures { IfOk result (λ v. v.items ≡ spec.builtin_faults text.now tokens.now nodes.now) }
+    ensures { IfOk result (λ found. found.items ≡ filter_map (spec.call_fault tokens.now) calls.now) }
 {
     let mut found = Vec::new(alloc);
-    let mut rest = nodes;
-    while let [node, more @ ..] = rest {
-        if same_rule(node.rule, Rule::Atom) {
-            judge(alloc, text, tokens, nodes, node.kids.as_slice(), &mut found)?;
+    let mut rest = calls;
+    while let [called, more @ ..] = rest {
+        if let Some(fault) = call_fault(alloc, tokens, *called) {
+            found.push(fault)?;
         }
         rest = more;
     }

@@ -3,7 +3,6 @@ ghost use Rattle.std.specs.Prelude.{◌≡◌, true, IfOk};
 ghost use Rattle.zig_tree.specs.Nodes.{are_earlier};
 ghost use Rattle.zir_scope.specs.Syntax.{inside_of, row_in, rule_at};
 ghost use Rattle.zir_astgen.specs.Files as spec;
-ghost use Rattle.zir_astgen.specs.Parts as parts;
 
 use crate::calls::kind_at;
 use crate::rows::rule_at;
@@ -87,21 +86,4 @@ pub fn word_in(outline: &Outline<'_>, wanted: TokenKind, row: &[Kid]) -> Option<
         rest = more;
     }
     None
-}
-
-/// Whether a row has a token of a kind.
-#[tactic(auto, unfolding(crate::specs::Parts::has_word, zir_scope::specs::Syntax::row_in))]
-pub fn has_word(outline: &Outline<'_>, wanted: TokenKind, row: &[Kid]) -> bool
-    ensures { result ≡ parts.has_word wanted (row_in outline.now row.now) }
-{
-    let mut rest = row;
-    while let [kid, more @ ..] = rest {
-        if let Kid::Token(token) = *kid {
-            if same_kind(kind_at(outline.tokens, token), wanted) {
-                return true;
-            }
-        }
-        rest = more;
-    }
-    false
 }

@@ -3,14 +3,14 @@ ghost use Rattle.std.specs.Prelude.{◌≡◌, ◌<◌, ◌^◌, [], ◌∷◌, 
 ghost use Rattle.zir_form.specs.Tables.{file_in};
 ghost use Rattle.zir_scope.specs.Captures.{captures_of};
 ghost use Rattle.zir_scope.specs.Findings.{scoped};
-ghost use Rattle.zir_astgen.specs.Calls.{builtin_faults};
+ghost use Rattle.zir_astgen.specs.Calls.{builtin_faults, calls_in};
 ghost use Rattle.zir_astgen.specs.Entering.{Within, filed};
 ghost use Rattle.zir_astgen.specs.Files.{core_file, core_of};
 ghost use Rattle.zir_astgen.specs.Filing.{file_known};
 ghost use Rattle.zir_astgen.specs.Rows.{Filed};
 ghost use Rattle.zir_scope.specs.Syntax.{inside_of};
 
-use crate::calls::builtin_faults;
+use crate::calls::{Called, call_faults};
 use crate::captured::Captured;
 use crate::file::{FileSource, Location};
 use crate::mentions::Mentions;
@@ -48,8 +48,18 @@ fn begun(alloc: Global) -> Result<Tables, AllocError>
 }
 
 impl FileSource<'_> {
-    /// The core tree of the file with this root.
-    fn zir(&self, root: u32) -> Result<Zir, AllocError>
+    /// The calls of builtins in the file with this root.
+    fn calls(&self, root: u32) -> Result<Vec<Called>, AllocError>
+        ensures { IfOk result (λ calls. calls.items ≡ calls_in self.now.text.now self.now.outline.now.tokens.now (inside_of self.now.outline.now root)) }
+    {
+        let mut calls = Vec::new(self.alloc);
+        self.calls_in(self.outline.kids(root), root, &mut calls)?;
+        Ok(calls)
+    }
+
+    /// The core tree of the file with this root, in which these builtins are called.
+    fn zir(&self, root: u32, calls: &[Called]) -> Result<Zir, AllocError>
+        requires { calls.now ≡ calls_in self.now.text.now self.now.outline.now.tokens.now (inside_of self.now.outline.now root) }
         ensures { IfOk result (λ z. file_in z ≡ core_of (file_known self.now) (inside_of self.now.outline.now root)) }
     {
         let mut braces = Vec::new(self.alloc);
@@ -67,8 +77,7 @@ impl FileSource<'_> {
         };
         let row = self.outline.kids(root);
         let tables = self.row_parts(begun(self.alloc)?, &at, row, root)?;
-        let mut imports = Vec::new(self.alloc);
-        self.imports_of(row, root, &mut imports)?;
+        let imports = self.imports(calls)?;
         let Tables {
             sheet: Sheet { lines },
             rows: Rows {
@@ -95,7 +104,7 @@ pub fn astgen(
     requires events { scopes.now.events ≡ scoped text.now tokens.now tree.now.nodes tree.now.root }
     requires captures { scopes.now.captures ≡ captures_of (scoped text.now tokens.now tree.now.nodes tree.now.root) }
     ensures zir { IfOk result (λ o. file_in o.zir ≡ core_file text.now tokens.now tree.now.nodes tree.now.root) }
-    ensures found { IfOk result (λ o. o.found ≡ builtin_faults text.now tokens.now tree.now.nodes) }
+    ensures found { IfOk result (λ o. o.found ≡ builtin_faults text.now tokens.now tree.now.nodes tree.now.root) }
 {
     let facts = facts_of(alloc, text, tokens)?;
     let outline = Outline {
@@ -112,8 +121,9 @@ pub fn astgen(
         events: &events,
         captures: &captures,
     };
-    let zir = source.zir(tree.root)?;
-    let found = builtin_faults(alloc, text, tokens, tree.nodes.as_slice())?;
+    let calls = source.calls(tree.root)?;
+    let zir = source.zir(tree.root, calls.as_slice())?;
+    let found = call_faults(alloc, tokens, calls.as_slice())?;
     Ok(AstGenOut {
         zir,
         found: Seq::of(found),

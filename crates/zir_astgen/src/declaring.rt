@@ -16,7 +16,7 @@ ghost use Rattle.zir_astgen.specs.Rows.{IsBelow, RowsBelow, filed_by, filed_more
 ghost use Rattle.zir_astgen.specs.Site.{captures_from};
 ghost use Rattle.zir_astgen.specs.Writing.{linkage_of};
 
-use crate::content::{Held, content, has_word, held_of_rule, word_in};
+use crate::content::{Held, content, held_of_rule, word_in};
 use crate::file::{FileSource, Location};
 use crate::linked::Linked;
 use crate::outline::{lead_of, own_locals};
@@ -27,6 +27,7 @@ use crate::sheet::{Rows, Sheet, Tables, Written};
 use crate::source::{Linkage, Part};
 use crate::start::Start;
 use crate::values::string_value;
+use crate::words::has_word;
 use crate::writer::ABSENT;
 use std::alloc::AllocError;
 use zig_tree::{Kid, Rule, TokenKind};

@@ -14,7 +14,7 @@ ghost use Rattle.zig_tree.specs.declared.grammar.Rule.TheVariants as rule;
 ghost use Rattle.zir_scope.specs.Syntax.{Syntax, node, nothing};
 
 /// A file that holds nothing declares nothing.
-#[tactic(auto, unfolding(crate::specs::Files::core_of, crate::specs::Files::imports_of, crate::specs::Files::declarations_of, crate::specs::Files::containers_of, crate::specs::Files::blocks_of, crate::specs::Outline::entries))]
+#[tactic(auto, unfolding(crate::specs::Calls::calls_in, crate::specs::Files::core_of, crate::specs::Files::imports_of, crate::specs::Files::declarations_of, crate::specs::Files::containers_of, crate::specs::Files::blocks_of, crate::specs::Outline::entries))]
 pub fn nothing_declares_nothing()
     ensures { (f : File) → core_of f nothing ≡ record { declarations = []; containers = []; blocks = []; imports = [] } }
 {}

@@ -1,8 +1,8 @@
 //! The core tree of a file, what its literals stand for, and what is wrong with its builtins (E206 and E207).
 //!
-//! The model of builtins (`specs/Builtins.antt`): each has a name and a number of arguments, by one table. A
-//! call of another name, or with another number of arguments, is E207; an `@import` of anything but one
-//! string literal is E206. A literal stands for a number (`specs/Numbers.antt`) or for bytes
+//! The model of builtins: each has a name and a number of arguments, by the table of `zir_form`. A call
+//! (`specs/Calls.antt`) of another name, or with another number of arguments, is E207; an `@import` of
+//! anything but one string literal is E206; each other `@import` names a file. A literal stands for a number (`specs/Numbers.antt`) or for bytes
 //! (`specs/Values.antt`), read from the bytes of its token; laws of `values` say that this is what the
 //! items of the token stand for (`specs/TokenValues.antt`).
 //! The core tree of a file is `core_file` (`specs/Files.antt`): `entries` (`specs/Outline.antt`) lists its
@@ -20,7 +20,6 @@
 mod around;
 mod asking;
 mod atoms;
-mod builtins;
 mod calls;
 mod captured;
 mod chains;
@@ -57,8 +56,6 @@ mod stage;
 mod start;
 mod statements;
 mod suffix;
-#[cfg(test)]
-mod tests;
 mod types;
 pub mod values;
 mod walk;

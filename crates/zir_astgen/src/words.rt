@@ -2,7 +2,7 @@
 ghost use Rattle.std.specs.Prelude.{◌≡◌};
 ghost use Rattle.zir_scope.specs.Syntax.{inside_of, row_in};
 ghost use Rattle.zir_astgen.specs.Chains.{second_is};
-ghost use Rattle.zir_astgen.specs.Names.{string_in};
+ghost use Rattle.zir_astgen.specs.Calls.{string_in};
 ghost use Rattle.zir_astgen.specs.Parts.{has_word};
 
 use crate::calls::kind_at;
@@ -40,7 +40,7 @@ pub fn second_is(outline: &Outline<'_>, wanted: TokenKind, row: &[Kid]) -> bool
 }
 
 /// The token of a string on one line that is all that a row holds.
-#[tactic(auto, unfolding(crate::specs::Names::string_in, zir_scope::specs::Syntax::row_in))]
+#[tactic(auto, unfolding(crate::specs::Calls::string_in, zir_scope::specs::Syntax::row_in))]
 pub fn string_in(outline: &Outline<'_>, row: &[Kid]) -> Option<u32>
     ensures { result ≡ string_in (row_in outline.now row.now) }
 {

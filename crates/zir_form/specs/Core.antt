@@ -4,7 +4,7 @@ use Rattle.std.specs.Prelude.{ℕ, Bool, List, [], ◌∷◌, Option}
 use Rattle.zir_form.specs.declared.primitive.Primitive.{Primitive}
 use Rattle.zir_form.specs.declared.operator.BinaryOperator.{BinaryOperator}
 use Rattle.zir_form.specs.declared.operator.UnaryOperator.{UnaryOperator}
-use Rattle.zir_form.specs.declared.operator.Builtin.{Builtin}
+use Rattle.zir_form.specs.declared.builtin.Builtin.{Builtin}
 
 mutual
   pub data Core : Type 0 where

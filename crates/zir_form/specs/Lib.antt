@@ -2,6 +2,7 @@ pub mod Escapes
 pub mod Names
 pub mod Places
 pub mod Primitives
+pub mod Builtins
 pub mod Core
 pub mod Lines
 pub mod File

@@ -1,5 +1,6 @@
 // The forms of the core tree, as lines of instructions: a line's children are earlier lines, by number.
-use crate::operator::{BinaryOperator, Builtin, UnaryOperator};
+use crate::builtin::Builtin;
+use crate::operator::{BinaryOperator, UnaryOperator};
 use crate::primitive::Primitive;
 use zw_base::{Bytes, Seq};
 

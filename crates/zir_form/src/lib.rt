@@ -8,13 +8,14 @@
 //! that it stands for (`specs/File.antt`). A `Front` is what a file is to the layers above: its diagnostics,
 //! and its core tree where its text is a sentence (`specs/Front.antt`); its answers to who asks for a part's
 //! text, for a name or for what it exports have no place of the file in them.
-//! Public calls: `token_bytes`, `name_of`, `Names::of`, `primitive_of`; `Lines::put`, `Zir::of`, `Zir::part`,
+//! Public calls: `token_bytes`, `name_of`, `Names::of`, `primitive_of`, `builtin_fn`; `Lines::put`, `Zir::of`, `Zir::part`,
 //! `Zir::name_in`, `Zir::container_in`, `exports_of`, and the same of a `Front`; `Zir::part_start` and
 //! `Zir::name_start` for the places of diagnostics; `quoted_value` and the calls on bytes serve the crate that
 //! reads literals. The crate stands on `zw_base` and `zig_tree`.
 #![tactic(auto)]
 
 mod build;
+mod builtin;
 mod bytes;
 mod escape;
 mod exports;
@@ -31,6 +32,7 @@ mod table;
 mod tests;
 mod zir;
 
+pub use builtin::{Builtin, BuiltinFn, builtin_fn};
 pub use bytes::{DigitRun, behind, byte_at, digits_at_front, is_within};
 pub use escape::{letter_value, quoted_value};
 pub use exports::{FileExports, exports_of};
@@ -40,7 +42,7 @@ pub use laws::{first_tokens_tell_names, lines_are_over_earlier_ones};
 pub use lines::Lines;
 pub use name::{name_of, token_bytes};
 pub use names::Names;
-pub use operator::{BinaryOperator, Builtin, UnaryOperator};
+pub use operator::{BinaryOperator, UnaryOperator};
 pub use primitive::{Primitive, primitive_of};
 pub use table::{BlockRow, ContainerRow, DeclarationRow, ImportRow};
 pub use zir::{ContainerRef, NameRef, Part, PartRef, Zir};

@@ -1,7 +1,7 @@
 // Names as they are written in several ways, primitives, and what a Zir answers.
 use crate::{
-    ContainerRef, ContainerRow, DeclarationRow, Form, Lines, NameRef, Names, Part, PartRef,
-    Primitive, Zir, name_of, primitive_of,
+    Builtin, BuiltinFn, ContainerRef, ContainerRow, DeclarationRow, Form, Lines, NameRef, Names,
+    Part, PartRef, Primitive, Zir, builtin_fn, name_of, primitive_of,
 };
 use std::test::Fail;
 use zig_tree::{Token, TokenKind};
@@ -131,5 +131,19 @@ fn parts_and_names(rt: HostRuntime) -> Result<(), Fail> {
     );
     assert_eq!(rt; zir.container_in(inner, name, 1), Some(ContainerRef(9)));
     assert_eq!(rt; zir.container_in(inner, name, 2), None);
+    Ok(())
+}
+
+#[test]
+fn builtins_have_their_arguments(rt: HostRuntime) -> Result<(), Fail> {
+    let by = |builtin, parameters| {
+        Some(BuiltinFn {
+            builtin,
+            parameters,
+        })
+    };
+    assert_eq!(rt; builtin_fn(b"@as"), by(Builtin::As, 2));
+    assert_eq!(rt; builtin_fn(b"@trap"), by(Builtin::Trap, 0));
+    assert_eq!(rt; builtin_fn(b"@alignCast"), None);
     Ok(())
 }
