@@ -40,7 +40,11 @@ GoesOn-of p q e f laid x pool = record {
   layout = f;
   laid = laid;
   log = x;
-  most = λ s l. subst (λ n. length (rows_of q.view.layout s q.view.log) ≤ n) (half_is q.view.layout.top) (most_rows q.view.layout q.view s pool l).0;
+  placed = record {
+    placed = pool.placed;
+    fit = λ s l. (most_rows q.view.layout q.view s pool l).1;
+    most = λ s l. subst (λ n. length (rows_of q.view.layout s q.view.log) ≤ n) (half_is q.view.layout.top) (most_rows q.view.layout q.view s pool l).0;
+  };
 }
 
 -- the same for rows whose seat is at a layout of their own
@@ -55,7 +59,7 @@ full_later p q s g l f =
     let e : rows_of q.view.layout s q.view.log ≡ rows_of q.view.layout s p.view.log ++ rows_of q.view.layout s g.log.0 = ap (rows_of q.view.layout s) g.log.1 ∙ rows_of-append q.view.layout s p.view.log g.log.0 in
     let n : length (rows_of q.view.layout s q.view.log) ≡ length (rows_of q.view.layout s p.view.log) + length (rows_of q.view.layout s g.log.0) = ap length e ∙ length-append (rows_of q.view.layout s p.view.log) (rows_of q.view.layout s g.log.0) in
     let u : used (rows_of q.view.layout s q.view.log) ≡ used (rows_of q.view.layout s p.view.log) + used (rows_of q.view.layout s g.log.0) = ap used e ∙ used-append (rows_of q.view.layout s p.view.log) (rows_of q.view.layout s g.log.0) in
-    let m = g.most s (subst (λ (y : Layout). s < y.shards) (sym g.layout) l) in
+    let m = g.placed.most s (subst (λ (y : Layout). s < y.shards) (sym g.layout) l) in
     let f' : IsFullShard q.view.layout p.view.log s = subst (λ y. IsFullShard y p.view.log s) (sym g.layout) f in
     ⊎_elim (λ a. inl (let t : ℕ = 32 * 2 ^ q.view.layout.top in let a' : length (rows_of q.view.layout s p.view.log) ≡ t = a in let m' : length (rows_of q.view.layout s q.view.log) ≤ t = m in let r : length (rows_of q.view.layout s q.view.log) ≡ t = omega arith in r)) (λ b. inr (omega arith)) f'
 

@@ -5,8 +5,8 @@ use Rattle.type_form.specs.Known.{Known}
 use Rattle.type_form.specs.Words.{index_of}
 use Rattle.pool_words.specs.declared.view.Layout.{Layout}
 use Rattle.pool_words.specs.declared.view.View.{View}
-use Rattle.pool_words.specs.Layout.{Row, used, start, rows_of, IsLayout}
-use Rattle.pool_words.specs.Rule.{In, Extends}
+use Rattle.pool_words.specs.Layout.{Row, used, base, start, rows_of, IsLayout}
+use Rattle.pool_words.specs.Rule.{In, Laid, Extends}
 
 -- the published rows as pairs of index and key
 abbrev pub known_of : List Row → Known
@@ -42,13 +42,20 @@ no_pool = record {
 abbrev pub IsAtNumbers : Layout → List Row → ℕ → ℕ → Type 0
 IsAtNumbers z log s n = (length (rows_of z s log) ≡ 32 * 2 ^ z.top) ⊎ (z.size < start z + used (rows_of z s log) + (n + 1))
 
--- what every call on the rows keeps: the table and its layout, and every row. A shard has at most as many rows as half of the slots of its last level
+-- Rows as a pool takes them: those of each shard stand one behind the other, from the shard's first
+-- place for rows on, and fit its words. They are at most half as many as its last level has slots
+pub record ArePlaced (z : Layout) (log : List Row) : Type 0 where
+  pub placed : (s : ℕ) → s < z.shards → Laid (base z s + start z) (rows_of z s log)
+  pub fit : (s : ℕ) → s < z.shards → start z + used (rows_of z s log) ≤ z.size
+  pub most : (s : ℕ) → s < z.shards → length (rows_of z s log) ≤ 32 * 2 ^ z.top
+
+-- what every call on the rows keeps: the table and its layout, and every row
 pub record GoesOn (p q : Rows) : Type 0 where
   pub id : q.id ≡ p.id
   pub layout : q.view.layout ≡ p.view.layout
   pub laid : IsLayout q.view.layout
   pub log : Extends p.view.log q.view.log
-  pub most : (s : ℕ) → s < q.view.layout.shards → length (rows_of q.view.layout s q.view.log) ≤ 32 * 2 ^ q.view.layout.top
+  pub placed : ArePlaced q.view.layout q.view.log
 
 -- no row has the key
 abbrev pub HasNot : List Row → List ℕ → Type 0
