@@ -1,18 +1,22 @@
 -- All that is reached was moved, where what is live was.
-use Rattle.std.proofs.Common.{◌≡◌, inl, inr, ⊎_elim, ℕ, zero, suc, ◌<◌, Bool, true, false, if◌then◌else◌, List, [], ◌∷◌, length, get_or, slice_index, Some, None, refl, sym, ◌∙◌, subst, arith}
+use Rattle.std.proofs.Common.{◌≡◌, inl, inr, ⊎_elim, ℕ, zero, suc, ◌+◌, ◌*◌, ◌^◌, ◌<◌, ◌≤◌, Bool, true, false, if◌then◌else◌, List, [], ◌∷◌, length, get_or, map, slice_index, Some, None, refl, sym, ap, ◌∙◌, subst, arith}
 use Rattle.type_form.specs.declared.index.Index.{Index}
 use Rattle.type_form.specs.Known.{Known, words_at, IsInjective}
 use Rattle.type_form.specs.Words.{index_of}
 use Rattle.type_form.specs.Denote.{denoted, list_in}
-use Rattle.pool_words.specs.Layout.{Row}
-use Rattle.pool_words.specs.Rule.{In}
-use Rattle.pool_shard.specs.Pairs.{Rows, known, known_of}
+use Rattle.pool_words.specs.Layout.{Row, used, base, start, rows_of, IsLayout}
+use Rattle.pool_words.proofs.Members.{used-nil}
+use Rattle.pool_words.proofs.Opening.{no_rows as no_shard_rows}
+use Rattle.pool_words.proofs.Places.{start_low}
+use Rattle.pool_words.specs.Rule.{In, Laid}
+use Rattle.pool_shard.specs.Pairs.{Rows, known, known_of, ArePlaced}
 use Rattle.type_form.specs.declared.roles.Role.{Role}
 use Rattle.type_form.specs.declared.roles.Role.TheVariants as role
 use Rattle.type_form.specs.Roles.{role_at}
 use Rattle.type_form.specs.Reach.{IsIndex, Live, Word}
 use Rattle.pool_seat.specs.Reach.{Reached}
 use Rattle.pool_seat.specs.Moves.{Pairs, IsMoved, AreMoved, IsListMoved, WordMoves, AreApart, HasMoved, IsRehomed}
+use Rattle.pool_seat.specs.Order.{places}
 use Rattle.pool_seat.specs.declared.mover.Mover.{Mover}
 use Rattle.pool_seat.specs.Movers.{IsMover}
 use Rattle.pool_seat.proofs.Depths.{In-at, In-front, In-back}
@@ -113,6 +117,20 @@ nothing_moved k live p e =
   where
     none : {A : Type 0} (ws : List ℕ) → None ≡ Some ws → A
     none ws a = cc
+
+pub no_places : (p : Rows) → known p ≡ [] → places p ≡ []
+no_places p e = ap (map (λ (r : Row). r.0)) (no_rows p.view.log e)
+
+-- an empty pool has its rows in place
+pub empty_placed : (p : Rows) → IsLayout p.view.layout → known p ≡ [] → ArePlaced p.view.layout p.view.log
+empty_placed p l e =
+    let z = p.view.layout in
+    let none : (s : ℕ) → rows_of z s p.view.log ≡ [] = λ s. ap (rows_of z s) (no_rows p.view.log e) ∙ no_shard_rows z s in
+    record {
+      placed = λ s lt. subst (Laid (base z s + start z)) (sym (none s)) tt;
+      fit = λ s lt. let a = start_low z l in let u = ap used (none s) ∙ used-nil in omega arith;
+      most = λ s lt. let n = ap length (none s) in let t : ℕ = 32 * 2 ^ z.top in let f : length (rows_of z s p.view.log) ≤ t = omega arith in f;
+    }
 
 pub In-get : (live : List Index) (p : ℕ) (d : Index) → p < length live → In (get_or live p d) live
 In-get [] p d l = absurd (omega (arith, l))

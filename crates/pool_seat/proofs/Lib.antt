@@ -1,5 +1,6 @@
 pub mod Closing
 pub mod Depths
+pub mod Fronts
 pub mod Kept
 pub mod Moved
 pub mod Moving

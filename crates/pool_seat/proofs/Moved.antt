@@ -1,8 +1,8 @@
 -- What was moved is the same type, value, declaration, instance or list of numbers.
-use Rattle.std.proofs.Common.{◌≡◌, ℕ, List, [], Option, IsSome, unwrap_or, option_and_then, sym, ap, ◌∙◌, subst}
+use Rattle.std.proofs.Common.{ℕ, [], IsSome, unwrap_or, option_and_then, sym, ap, ◌∙◌, subst}
 use Rattle.type_form.specs.Known.{Known}
 use Rattle.type_form.specs.Words.{index_of}
-use Rattle.type_form.specs.Denote.{Node, denoted, as_ty, as_value, as_decl, as_instance, as_list, ty_in, value_in, decl_in, instance_in, list_in}
+use Rattle.type_form.specs.Denote.{as_ty, as_value, as_decl, as_instance, as_list, ty_in, value_in, decl_in, instance_in, list_in}
 use Rattle.type_form.specs.declared.tree.Ty.TheVariants as ty
 use Rattle.type_form.specs.declared.tree.Value.TheVariants as value
 use Rattle.type_form.specs.declared.tree.DeclPath.TheVariants as decl

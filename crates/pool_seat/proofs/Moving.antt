@@ -12,14 +12,14 @@ use Rattle.type_form.proofs.Options.{then_tells}
 use Rattle.pool_words.specs.Layout.{Row}
 use Rattle.pool_words.specs.Rule.{In}
 use Rattle.pool_words.proofs.Members.{In-left, In-last, In-push}
-use Rattle.pool_shard.specs.Pairs.{Rows, known, known_of, HasNot, AddsAtMost}
+use Rattle.pool_shard.specs.Pairs.{Rows, known, known_of, HasNot, AddsAtMost, ArePlaced}
 use Rattle.type_form.specs.declared.roles.Role.{Role}
 use Rattle.type_form.specs.declared.roles.Role.TheVariants as role
 use Rattle.pool_seat.specs.declared.mover.Mover.{Mover}
 use Rattle.pool_seat.specs.Reach.{Reached}
 use Rattle.type_form.specs.Roles.{role_at}
 use Rattle.pool_seat.specs.Moves.{IsSame, Pairs, IsMoved, AreMoved, IsListMoved, Becomes, WordMoves, IsNewKey, AreApart, HasMoved, SameRows}
-use Rattle.pool_seat.specs.Movers.{Later, HasTree, IsMover}
+use Rattle.pool_seat.specs.Movers.{Later, SameNew, HasTree, IsMover}
 
 -- what denotes something has words
 pub denoted_words : (k : Known) (i : Index) (n : Node) → denoted k i ≡ Some n → IsSome (words_at k i)
@@ -50,6 +50,9 @@ Later-trans l m n a b = record {
   long = b.long ∙ a.long;
   moved = λ i j h. b.moved i j (a.moved i j h);
 }
+
+pub SameNew-trans : (l m n : Mover) → SameNew l m → SameNew m n → SameNew l n
+SameNew-trans l m n a b = record { to = b.to ∙ a.to; moved = b.moved ∙ a.moved }
 
 pub Later-known : (m n : Mover) → Later m n → known n.from ≡ known m.from
 Later-known m n a = ap known_of a.from.log
@@ -161,9 +164,10 @@ entered_before : (table : List ℕ) (i j a b : ℕ) → i < length table → sli
 entered_before table i j a b l h = ⊎_elim (λ e. inl (e, one_more b j (sym h ∙ (ap (slice_index (set table i (j + 1))) e ∙ entered_now table i j l)))) (λ ne. inr (sym (get_or-set_other table i a (j + 1) 0 ne) ∙ h)) (cases_eq a i)
 
 -- the mover notes a move
-pub IsMover-note : (m n : Mover) (i j : ℕ) → IsMover m → HasMoved (known m.from) m.live.now m.to (m.moved.items ++ (index_of i, index_of j) ∷ []) → slice_index m.table.items i ≡ 0 → i < length m.table.items → ((a b : ℕ) → IsMoved (m.moved.items ++ (index_of i, index_of j) ∷ []) a b → HasTree (known m.from) (m.moved.items ++ (index_of i, index_of j) ∷ []) false a) → n.from ≡ m.from → n.live ≡ m.live → n.to ≡ m.to → n.table.items ≡ set m.table.items i (j + 1) → n.moved.items ≡ m.moved.items ++ (index_of i, index_of j) ∷ [] → IsMover n
+pub IsMover-note : (m n : Mover) (i j : ℕ) → IsMover m → HasMoved (known m.from) m.live.now m.to (m.moved.items ++ (index_of i, index_of j) ∷ []) → slice_index m.table.items i ≡ 0 → i < length m.table.items → ((a b : ℕ) → IsMoved (m.moved.items ++ (index_of i, index_of j) ∷ []) a b → HasTree (known m.from) m.to (m.moved.items ++ (index_of i, index_of j) ∷ []) false a) → n.from ≡ m.from → n.live ≡ m.live → n.to ≡ m.to → n.table.items ≡ set m.table.items i (j + 1) → n.moved.items ≡ m.moved.items ++ (index_of i, index_of j) ∷ [] → IsMover n
 IsMover-note m n i j h has free l trees e v f g k = record {
   has = subst (λ (p : Rows). HasMoved (known p) n.live.now n.to n.moved.items) (sym e) (subst (λ x. HasMoved (known m.from) x.now n.to n.moved.items) (sym v) (subst (λ (p : Rows). HasMoved (known m.from) m.live.now p n.moved.items) (sym f) (subst (HasMoved (known m.from) m.live.now m.to) (sym k) has)));
+  placed = subst (λ (p : Rows). ArePlaced p.view.layout p.view.log) (sym f) h.placed;
   inside = λ a t. subst (λ (ns : List ℕ). a.0 < length ns) (sym g) (subst (λ n. a.0 < n) (sym (length-set m.table.items i (j + 1))) (h.inside a (subst (λ (p : Rows). IsSome (words_at (known p) a)) e t)));
   listed = λ a b t. subst (In (index_of a, index_of b)) (sym k) (⊎_elim
       (λ q. subst (λ x. IsMoved (m.moved.items ++ (index_of i, index_of j) ∷ []) x b) (sym q.0) (subst (IsMoved (m.moved.items ++ (index_of i, index_of j) ∷ []) i) (sym q.1) (In-last (index_of i, index_of j) m.moved.items)))
@@ -173,5 +177,5 @@ IsMover-note m n i j h has free l trees e v f g k = record {
       (λ o. entered_else m.table.items i j a.0 b.0 free (h.entered a b o))
       (λ q. subst (λ x. slice_index (set m.table.items i (j + 1)) x ≡ suc b.0) (sym q.0) (subst (λ y. slice_index (set m.table.items i (j + 1)) i ≡ suc y) (sym q.1) (entered_now m.table.items i j l)))
       (moved_cases m.moved.items i j a.0 b.0 (subst (In (a, b)) k t)));
-  trees = λ a b t. subst (λ (p : Rows). HasTree (known p) n.moved.items false a) (sym e) (subst (λ (u : Pairs). HasTree (known m.from) u false a) (sym k) (trees a b (subst (In (index_of a, index_of b)) k t)));
+  trees = λ a b t. subst (λ (p : Rows). HasTree (known p) n.to n.moved.items false a) (sym e) (subst (λ (p : Rows). HasTree (known m.from) p n.moved.items false a) (sym f) (subst (λ (u : Pairs). HasTree (known m.from) m.to u false a) (sym k) (trees a b (subst (In (index_of a, index_of b)) k t))));
 }

@@ -1,21 +1,18 @@
--- In which order indices are moved: what each step adds to those that were moved.
-use Rattle.std.proofs.Common.{◌≡◌, inl, inr, ⊎_elim, ◌⊎◌, ℕ, zero, suc, ◌<◌, ◌==◌, ◌||◌, Bool, true, false, if◌then◌else◌, List, [], ◌∷◌, ◌++◌, length, slice_index, Some, refl, sym, ap, ap₂, ◌∙◌, subst, arith}
-use Rattle.std.proofs.lemmas.Bool.{cases_lt, eqb-true, eq-eqb, ne_eqb}
-use Rattle.std.proofs.lemmas.List.{append-nil, append_assoc, map-append}
+-- In which order sources are moved: what each step adds to the rows and the pairs.
+use Rattle.std.proofs.Common.{◌≡◌, inl, inr, ⊎_elim, ◌⊎◌, ℕ, ◌==◌, ◌||◌, Bool, true, false, if◌then◌else◌, List, [], ◌∷◌, ◌++◌, map, Option, Some, refl, sym, ap, ◌∙◌, subst}
+use Rattle.std.proofs.lemmas.Bool.{eqb-true, eq-eqb}
+use Rattle.std.proofs.lemmas.List.{map-append}
 use Rattle.type_form.specs.declared.index.Index.{Index}
-use Rattle.type_form.specs.Known.{Known, words_at}
+use Rattle.type_form.specs.Known.{Known, words_at, Keeps}
 use Rattle.type_form.specs.Words.{index_of}
+use Rattle.pool_words.specs.Layout.{Row}
 use Rattle.pool_words.specs.Rule.{In}
-use Rattle.pool_words.proofs.Members.{In-left, In-last, In-push}
-use Rattle.type_form.specs.declared.roles.Role.{Role}
-use Rattle.type_form.specs.declared.roles.Role.TheVariants as role
-use Rattle.type_form.specs.Roles.{role_at}
-use Rattle.type_form.specs.Reach.{IsIndex}
+use Rattle.pool_words.proofs.Members.{In-left, In-last}
+use Rattle.pool_shard.specs.Pairs.{Rows, known, known_of, AddsAtMost}
 use Rattle.pool_seat.specs.Moves.{Pairs, IsMoved}
-use Rattle.pool_seat.specs.Order.{joined, own, Listed, Row, AllListed, is_among, added, adding, olds}
-use Rattle.pool_seat.specs.Movers.{HasTree, HasParts, AddsTree, AddsParts, WordAdds, AddsAll}
-use Rattle.pool_seat.proofs.RowMoves.{heads, tails}
-use Rattle.pool_seat.proofs.Moving.{Goes, goes_push, moved_cases}
+use Rattle.pool_seat.specs.Order.{Source, is_among, added, adding, olds, places, with_pairs, IsNewRow, AreNewRows, Adds}
+use Rattle.pool_seat.specs.Movers.{HasAll, HasTree, HasParts}
+use Rattle.pool_seat.proofs.Moving.{Goes, goes_push, moved_cases, new_key_later}
 
 -- ---- numbers added to a list, each once
 
@@ -79,10 +76,6 @@ adding_same : (there ns : List ℕ) → ((n : ℕ) → In n ns → In n there) �
 adding_same there [] f = refl
 adding_same there (n ∷ ns) f = ap (λ (xs : List ℕ). adding xs ns) (added_there there n (f n (inl refl))) ∙ adding_same there ns (λ m h. f m (inr h))
 
--- nor those that come first and were added before
-adding_again : (there a b : List ℕ) → adding (adding there a) (a ++ b) ≡ adding there (a ++ b)
-adding_again there a b = adding_append (adding there a) a b ∙ (ap (λ (xs : List ℕ). adding xs b) (adding_same (adding there a) a (λ n h. adding_has there a n h)) ∙ sym (adding_append there a b))
-
 -- ---- the old indices
 
 pub moved_old : (moved : Pairs) (i j : ℕ) → IsMoved moved i j → In i (olds moved)
@@ -102,167 +95,172 @@ olds_push moved i j = map-append (λ (pair : Index × Index). (pair.0).0) moved 
 olds_later : (t u : Pairs) → Goes t u → (n : ℕ) → In n (olds t) → In n (olds u)
 olds_later t u f n h = let g = old_moved t n h in moved_old u n g.0 (f n g.0 g.1)
 
-pub tree_later : (k : Known) (t u : Pairs) (b : Bool) (i : ℕ) → Goes t u → HasTree k t b i → HasTree k u b i
-tree_later k t u b i f s = record { listing = s.listing; listed = s.listed; moved_all = λ n h. olds_later t u f n (s.moved_all n h) }
+-- ---- the places of rows
 
--- ---- the lists of the places, joined
+at_place : (b : Bool) (x ws : List ℕ) (o : Option (List ℕ)) → (if b then Some x else o) ≡ Some ws → (b ≡ true) ⊎ (o ≡ Some ws)
+at_place true x ws o e = inl refl
+at_place false x ws o e = inr e
 
-joined_same : (f g : ℕ → List ℕ) (n : ℕ) → ((p : ℕ) → p < n → f p ≡ g p) → joined f n ≡ joined g n
-joined_same f g zero h = refl
-joined_same f g (suc n) h = ap₂ (λ (a b : List ℕ). a ++ b) (joined_same f g n (λ p l. h p (omega (arith, l)))) (h n (omega arith))
+known_place : (log : List Row) (j : ℕ) (ws : List ℕ) → words_at (known_of log) (index_of j) ≡ Some ws → In j (map (λ (r : Row). r.0) log)
+known_place [] j ws e = cc
+known_place (r ∷ log) j ws e = ⊎_elim (λ t. inl (sym (eqb-true r.0 j t))) (λ o. inr (known_place log j ws o)) (at_place (r.0 == j) r.1 ws (words_at (known_of log) (index_of j)) e)
 
-joined_first : (f : ℕ → List ℕ) (n : ℕ) → (more : List ℕ) × (joined f (suc n) ≡ f 0 ++ more)
-joined_first f zero = ([], sym (append-nil (f 0)))
-joined_first f (suc n) = let g = joined_first f n in (g.0 ++ f (suc n), ap (λ (xs : List ℕ). xs ++ f (suc n)) g.1 ∙ append_assoc (f 0) g.0 (f (suc n)))
+-- where a key is known, its row is there
+pub place_there : (p : Rows) (j : ℕ) (ws : List ℕ) → words_at (known p) (index_of j) ≡ Some ws → In j (places p)
+place_there p j ws e = known_place p.view.log j ws e
 
--- ---- trees
+place_words : (log : List Row) (j : ℕ) → In j (map (λ (r : Row). r.0) log) → (ws : List ℕ) × (words_at (known_of log) (index_of j) ≡ Some ws)
+place_words [] j h = absurd h
+place_words (r ∷ log) j h = ⊎_elim
+    (λ t. (r.1, ap (λ b. if b then Some r.1 else words_at (known_of log) (index_of j)) t))
+    (λ f. let g = place_words log j (⊎_elim (λ e. absurd (not_both (r.0 == j) (eq-eqb r.0 j (sym e)) f)) (λ t. t) h) in (g.0, ap (λ b. if b then Some r.1 else words_at (known_of log) (index_of j)) f ∙ g.1))
+    (either (r.0 == j))
+  where
+    not_both : (b : Bool) → b ≡ true → b ≡ false → ⊥
+    not_both b e f = cc
 
--- what a listing is made of
-record Inside (k : Known) (b : Bool) (i : ℕ) (ns : List ℕ) : Type 0 where
-  kind : ℕ
-  ws : List ℕ
-  parts : ℕ → List ℕ
-  words : words_at k (index_of i) ≡ Some (kind ∷ ws)
-  each : (p : ℕ) (c : Bool) → p < length ws → IsIndex b (role_at kind b p) c → Listed k c (slice_index ws p) (parts p)
-  none : (p : ℕ) → p < length ws → role_at kind b p ≡ role.Number → parts p ≡ []
-  whole : ns ≡ joined parts (length ws) ++ own b i
+as_row : (r : Row) (j : ℕ) (ws : List ℕ) → j ≡ r.0 → r.1 ≡ ws → (j, ws) ≡ r
+as_row r j ws e f = ap (λ (x : ℕ). (x, ws)) e ∙ ap (λ (xs : List ℕ). (r.0, xs)) (sym f)
 
-inside : (k : Known) (b : Bool) (i : ℕ) (ns : List ℕ) → Listed k b i ns → Inside k b i ns
-inside k b i ns (Row of_parts n kind ws parts w each none) = record { kind = kind; ws = ws; parts = parts; words = w; each = each; none = none; whole = refl }
+known_row : (log : List Row) (j : ℕ) (ws : List ℕ) → words_at (known_of log) (index_of j) ≡ Some ws → In (j, ws) log
+known_row [] j ws e = cc
+known_row (r ∷ log) j ws e = ⊎_elim
+    (λ t. inl (as_row r j ws (sym (eqb-true r.0 j t)) (one r.1 ws (sym (ap (λ b. if b then Some r.1 else words_at (known_of log) (index_of j)) t) ∙ e))))
+    (λ f. inr (known_row log j ws (sym (ap (λ b. if b then Some r.1 else words_at (known_of log) (index_of j)) f) ∙ e)))
+    (either (r.0 == j))
+  where
+    one : (a b : List ℕ) → Some a ≡ Some b → a ≡ b
+    one a b e = cc
 
-index_or_number : (b : Bool) (r : Role) → ((c : Bool) × IsIndex b r c) ⊎ (r ≡ role.Number)
-index_or_number b role.Number = inr refl
-index_or_number b role.Part = inl (false, refl)
-index_or_number b role.List = inl (true, refl)
-index_or_number b role.Rest = inl (b, refl)
+-- the place of a key that was interned
+pub places_added : (p q : Rows) (j : ℕ) (key : List ℕ) → AddsAtMost p.view.log (j, key) q.view.log → Keeps (known p) (known q) → words_at (known q) (index_of j) ≡ Some key → places q ≡ added (places p) j
+places_added p q j key a h w = ⊎_elim
+    (λ e. let same : places q ≡ places p = ap (map (λ (r : Row). r.0)) e in same ∙ sym (added_there (places p) j (subst (In j) same (place_there q j key w))))
+    (λ e. ap (map (λ (r : Row). r.0)) e.0 ∙ (map-append (λ (r : Row). r.0) p.view.log ((j, key) ∷ []) ∙ sym (added_new (places p) j (λ i. let g = place_words p.view.log j i in e.1 j (known_row p.view.log j key (g.1 ∙ (sym (h.words (index_of j) g.0 g.1) ∙ w)))))))
+    a
 
--- an index has one listing
-same_listing : (k : Known) (b : Bool) (i : ℕ) (ns : List ℕ) → Listed k b i ns → (ms : List ℕ) → Listed k b i ms → ns ≡ ms
-same_listing k b i ns (Row of_parts n kind ws parts w each none) ms h =
-    let y = inside k of_parts n ms h in
-    let a : y.kind ≡ kind = heads y.kind kind y.ws ws (words_at k (index_of n)) y.words w in
-    let c : y.ws ≡ ws = tails y.kind kind y.ws ws (words_at k (index_of n)) y.words w in
-    let same : (p : ℕ) → p < length ws → parts p ≡ y.parts p = λ p l.
-    let l' : p < length y.ws = subst (λ (us : List ℕ). p < length us) (sym c) l in
-    ⊎_elim
-    (λ (x : (b : Bool) × IsIndex of_parts (role_at kind of_parts p) b). same_listing k x.0 (slice_index ws p) (parts p) (each p x.0 l x.1) (y.parts p) (subst (λ (us : List ℕ). Listed k x.0 (slice_index us p) (y.parts p)) c (y.each p x.0 l' (subst (λ (z : ℕ). IsIndex of_parts (role_at z of_parts p) x.0) (sym a) x.1))))
-    (λ (e : role_at kind of_parts p ≡ role.Number). none p l e ∙ sym (y.none p l' (subst (λ (z : ℕ). role_at z of_parts p ≡ role.Number) (sym a) e)))
-    (index_or_number of_parts (role_at kind of_parts p)) in
-    ap (λ (xs : List ℕ). xs ++ own of_parts n) (joined_same parts y.parts (length ws) same)
-    ∙ (ap (λ (us : List ℕ). joined y.parts (length us) ++ own of_parts n) (sym c) ∙ sym y.whole)
+-- ---- new rows
 
--- ---- what a step adds
+pub new_row_later : (k l m : Known) (t u : Pairs) (s : Source) (j : ℕ) → Keeps l m → Goes t u → IsNewRow k l t s j → IsNewRow k m u s j
+new_row_later k l m t u s j h f r = record { key = r.key; there = h.words (index_of j) r.key r.there; new = new_key_later k l m t u s.0 s.1 r.key h f r.new }
+
+pub new_rows_later : (k l m : Known) (t u : Pairs) (ss : List Source) (js : List ℕ) → Keeps l m → Goes t u → AreNewRows k l t ss js → AreNewRows k m u ss js
+new_rows_later k l m t u [] [] h f a = tt
+new_rows_later k l m t u [] (j ∷ js) h f a = absurd a
+new_rows_later k l m t u (s ∷ ss) [] h f a = absurd a
+new_rows_later k l m t u (s ∷ ss) (j ∷ js) h f a = (new_row_later k l m t u s j h f a.0, new_rows_later k l m t u ss js h f a.1)
+
+new_rows_append : (k l : Known) (t : Pairs) (xs ys : List Source) (is js : List ℕ) → AreNewRows k l t xs is → AreNewRows k l t ys js → AreNewRows k l t (xs ++ ys) (is ++ js)
+new_rows_append k l t [] ys [] js a b = b
+new_rows_append k l t [] ys (i ∷ is) js a b = absurd a
+new_rows_append k l t (s ∷ xs) ys [] js a b = absurd a
+new_rows_append k l t (s ∷ xs) ys (i ∷ is) js a b = (a.0, new_rows_append k l t xs ys is js a.1 b)
+
+new_rows_there : (k : Known) (p : Rows) (t : Pairs) (ss : List Source) (js : List ℕ) → AreNewRows k (known p) t ss js → (j : ℕ) → In j js → In j (places p)
+new_rows_there k p t [] [] a j h = absurd h
+new_rows_there k p t [] (i ∷ js) a j h = absurd a
+new_rows_there k p t (s ∷ ss) [] a j h = absurd h
+new_rows_there k p t (s ∷ ss) (i ∷ js) a j h = ⊎_elim (λ e. subst (λ x. In x (places p)) (sym e) (place_there p i a.0.key a.0.there)) (λ o. new_rows_there k p t ss js a.1 j o) h
+
+-- ---- the indices that have a pair
+
+first_pairs : (b : Bool) (i : ℕ) (xs ys : List ℕ) → (if b then xs ++ ys else i ∷ (xs ++ ys)) ≡ (if b then xs else i ∷ xs) ++ ys
+first_pairs true i xs ys = refl
+first_pairs false i xs ys = refl
+
+with_pairs-append : (xs ys : List Source) → with_pairs (xs ++ ys) ≡ with_pairs xs ++ with_pairs ys
+with_pairs-append [] ys = refl
+with_pairs-append (s ∷ xs) ys = ap (λ (xs : List ℕ). if s.0 then xs else s.1 ∷ xs) (with_pairs-append xs ys) ∙ first_pairs s.0 s.1 (with_pairs xs) (with_pairs ys)
+
+In-either : (n : ℕ) (xs ys : List ℕ) → In n (xs ++ ys) → In n xs ⊎ In n ys
+In-either n [] ys h = inr h
+In-either n (x ∷ xs) ys h = ⊎_elim (λ e. inl (inl e)) (λ t. ⊎_elim (λ a. inl (inr a)) (λ b. inr b) (In-either n xs ys t)) h
+
+-- ---- what was moved
+
+pub has_none : (k : Known) (p : Rows) (t : Pairs) → HasAll k p t []
+has_none k p t = record { new_places = []; are = tt; pairs = λ n h. absurd h }
+
+pub has_later : (k : Known) (p q : Rows) (t u : Pairs) (ss : List Source) → Keeps (known p) (known q) → Goes t u → HasAll k p t ss → HasAll k q u ss
+has_later k p q t u ss h f s = record { new_places = s.new_places; are = new_rows_later k (known p) (known q) t u ss s.new_places h f s.are; pairs = λ n i. olds_later t u f n (s.pairs n i) }
+
+pub has_append : (k : Known) (p : Rows) (t : Pairs) (xs ys : List Source) → HasAll k p t xs → HasAll k p t ys → HasAll k p t (xs ++ ys)
+has_append k p t xs ys a b = record {
+  new_places = a.new_places ++ b.new_places;
+  are = new_rows_append k (known p) t xs ys a.new_places b.new_places a.are b.are;
+  pairs = λ n h. ⊎_elim (a.pairs n) (b.pairs n) (In-either n (with_pairs xs) (with_pairs ys) (subst (In n) (with_pairs-append xs ys) h));
+}
+
+pub tree_later : (k : Known) (p q : Rows) (t u : Pairs) (b : Bool) (i : ℕ) → Keeps (known p) (known q) → Goes t u → HasTree k p t b i → HasTree k q u b i
+tree_later k p q t u b i h f s = record { listing = s.listing; listed = s.listed; has = has_later k p q t u s.listing h f s.has }
+
+-- ---- what is added
+
+pub adds_none : (k : Known) (p : Rows) (t : Pairs) → Adds k (places p) (olds t) p t []
+adds_none k p t = record { new_places = []; are = tt; rows = refl; pairs = refl }
+
+-- one step after the other
+pub adds_then : (k : Known) (rows pairs : List ℕ) (p q : Rows) (t u : Pairs) (xs ys : List Source) → Keeps (known p) (known q) → Goes t u → Adds k rows pairs p t xs → Adds k (places p) (olds t) q u ys → Adds k rows pairs q u (xs ++ ys)
+adds_then k rows pairs p q t u xs ys h f a b = record {
+  new_places = a.new_places ++ b.new_places;
+  are = new_rows_append k (known q) u xs ys a.new_places b.new_places (new_rows_later k (known p) (known q) t u xs a.new_places h f a.are) b.are;
+  rows = b.rows ∙ (ap (λ (xs : List ℕ). adding xs b.new_places) a.rows ∙ sym (adding_append rows a.new_places b.new_places));
+  pairs = b.pairs ∙ (ap (λ (xs : List ℕ). adding xs (with_pairs ys)) a.pairs ∙ (sym (adding_append pairs (with_pairs xs) (with_pairs ys)) ∙ ap (adding pairs) (sym (with_pairs-append xs ys))));
+}
+
+-- and one that adds nothing
+pub adds_later : (k : Known) (rows pairs : List ℕ) (p q : Rows) (t u : Pairs) (ss : List Source) → Keeps (known p) (known q) → Goes t u → places q ≡ places p → u ≡ t → Adds k rows pairs p t ss → Adds k rows pairs q u ss
+adds_later k rows pairs p q t u ss h f r e a = record {
+  new_places = a.new_places;
+  are = new_rows_later k (known p) (known q) t u ss a.new_places h f a.are;
+  rows = r ∙ a.rows;
+  pairs = ap olds e ∙ a.pairs;
+}
 
 -- what was added was moved
-pub tree_added : (k : Known) (b : Bool) (i : ℕ) (before after : Pairs) → AddsTree k b i before after → HasTree k after b i
-tree_added k b i before after s = record { listing = s.listing; listed = s.listed; moved_all = λ n h. subst (In n) (sym s.adds) (adding_has (olds before) s.listing n h) }
-
-pub parts_added : (k : Known) (b : Bool) (i : ℕ) (before after : Pairs) → AddsParts k b i before after → HasParts k after b i
-parts_added k b i before after s = record { listing = s.listing; listed = s.listed; moved_all = λ n h. subst (In n) (sym s.adds) (adding_has (olds before) s.listing n h) }
+pub row_has : (k : Known) (pairs : List ℕ) (p : Rows) (t : Pairs) (ss : List Source) (js : List ℕ) → AreNewRows k (known p) t ss js → olds t ≡ adding pairs (with_pairs ss) → HasAll k p t ss
+row_has k pairs p t ss js are e = record { new_places = js; are = are; pairs = λ n h. subst (In n) (sym e) (adding_has pairs (with_pairs ss) n h) }
 
 -- what was moved adds nothing
-pub tree_there : (k : Known) (b : Bool) (i : ℕ) (moved : Pairs) → HasTree k moved b i → AddsTree k b i moved moved
-tree_there k b i moved s = record { listing = s.listing; listed = s.listed; adds = sym (adding_same (olds moved) s.listing s.moved_all) }
+pub has_adds : (k : Known) (p : Rows) (t : Pairs) (ss : List Source) → HasAll k p t ss → Adds k (places p) (olds t) p t ss
+has_adds k p t ss s = record {
+  new_places = s.new_places;
+  are = s.are;
+  rows = sym (adding_same (places p) s.new_places (new_rows_there k p t ss s.new_places s.are));
+  pairs = sym (adding_same (olds t) (with_pairs ss) s.pairs);
+}
+
+-- the row of one source more, and its pair
+pub adds_row : (k : Known) (rows pairs : List ℕ) (p : Rows) (t : Pairs) (ss : List Source) (b : Bool) (i j : ℕ) (new_places : List ℕ) → AreNewRows k (known p) t ss new_places → IsNewRow k (known p) t (b, i) j → places p ≡ added (adding rows new_places) j → olds t ≡ adding pairs (with_pairs (ss ++ (b, i) ∷ [])) → Adds k rows pairs p t (ss ++ (b, i) ∷ [])
+adds_row k rows pairs p t ss b i j js are row e f = record {
+  new_places = js ++ j ∷ [];
+  are = new_rows_append k (known p) t ss ((b, i) ∷ []) js (j ∷ []) are (row, tt);
+  rows = e ∙ sym (adding_append rows js (j ∷ []));
+  pairs = f;
+}
 
 -- a list of parts has no pair of its own
-pub parts_listed : (k : Known) (i : ℕ) (before after : Pairs) → AddsParts k true i before after → AddsTree k true i before after
-parts_listed k i before after s = record { listing = s.listing ++ []; listed = s.listed; adds = s.adds ∙ ap (adding (olds before)) (sym (append-nil s.listing)) }
+pub parts_pairs : (pairs : List ℕ) (t : Pairs) (ss : List Source) (i : ℕ) → olds t ≡ adding pairs (with_pairs ss) → olds t ≡ adding pairs (with_pairs (ss ++ (true, i) ∷ []))
+parts_pairs pairs t ss i e = e ∙ (sym (adding_append pairs (with_pairs ss) []) ∙ ap (adding pairs) (sym (with_pairs-append ss ((true, i) ∷ []))))
 
 -- else its pair is noted
-pub parts_noted : (k : Known) (i : ℕ) (before mid after : Pairs) → AddsParts k false i before mid → olds after ≡ added (olds mid) i → AddsTree k false i before after
-parts_noted k i before mid after s e = record { listing = s.listing ++ i ∷ []; listed = s.listed; adds = e ∙ (ap (λ (xs : List ℕ). added xs i) s.adds ∙ sym (adding_append (olds before) s.listing (i ∷ []))) }
+pub index_pairs : (pairs : List ℕ) (t u : Pairs) (ss : List Source) (i : ℕ) → olds t ≡ adding pairs (with_pairs ss) → olds u ≡ added (olds t) i → olds u ≡ adding pairs (with_pairs (ss ++ (false, i) ∷ []))
+index_pairs pairs t u ss i e f = f ∙ (ap (λ (xs : List ℕ). added xs i) e ∙ (sym (adding_append pairs (with_pairs ss) (i ∷ [])) ∙ ap (adding pairs) (sym (with_pairs-append ss ((false, i) ∷ [])))))
 
 -- with the pair that is noted each that was moved has a tree that was
-pub trees_note : (k : Known) (moved : Pairs) (i j : ℕ) → ((a b : ℕ) → IsMoved moved a b → HasTree k moved false a) → HasParts k moved false i → (a b : ℕ) → IsMoved (moved ++ (index_of i, index_of j) ∷ []) a b → HasTree k (moved ++ (index_of i, index_of j) ∷ []) false a
-trees_note k moved i j h s a b m =
+pub trees_note : (k : Known) (p : Rows) (moved : Pairs) (i j : ℕ) → ((a b : ℕ) → IsMoved moved a b → HasTree k p moved false a) → HasParts k p moved false i → IsNewRow k (known p) moved (false, i) j → (a b : ℕ) → IsMoved (moved ++ (index_of i, index_of j) ∷ []) a b → HasTree k p (moved ++ (index_of i, index_of j) ∷ []) false a
+trees_note k p moved i j h s row a b m =
     let more : Pairs = moved ++ (index_of i, index_of j) ∷ [] in
+    let keeps : Keeps (known p) (known p) = record { words = λ x ws e. e } in
     ⊎_elim
-    (λ o. tree_later k moved more false a (goes_push moved i j) (h a b o))
-    (λ e. subst (HasTree k more false) (sym e.0) (record {
-      listing = s.listing ++ i ∷ [];
+    (λ o. tree_later k p p moved more false a keeps (goes_push moved i j) (h a b o))
+    (λ e. subst (HasTree k p more false) (sym e.0) (record {
+      listing = s.listing ++ (false, i) ∷ [];
       listed = s.listed;
-      moved_all = λ n x. subst (In n) (sym (olds_push moved i j)) (⊎_elim (λ y. In-left n (olds moved) (i ∷ []) (s.moved_all n y)) (λ y. subst (λ z. In z (olds moved ++ i ∷ [])) (sym y) (In-last i (olds moved))) (In-push n i s.listing x));
+      has = has_append k p more s.listing ((false, i) ∷ []) (has_later k p p moved more s.listing keeps (goes_push moved i j) s.has) (record {
+        new_places = j ∷ [];
+        are = (new_row_later k (known p) (known p) moved more (false, i) j keeps (goes_push moved i j) row, tt);
+        pairs = λ n x. ⊎_elim (λ y. subst (λ z. In z (olds more)) (sym y) (subst (In i) (sym (olds_push moved i j)) (In-last i (olds moved)))) (λ y. absurd y) x;
+      });
     }))
     (moved_cases moved i j a b m)
-
--- of a list with a rest the rest is first
-pub chain_adds : (k : Known) (b : Bool) (c e : ℕ) (us : List ℕ) (before mid after : Pairs) → words_at k (index_of c) ≡ Some (37 ∷ e ∷ us) → AddsTree k b e before mid → AddsTree k b c mid after → AddsTree k b c before after
-unfolding role_at
-chain_adds k b c e us before mid after w s t =
-    let y = inside k b c t.listing t.listed in
-    let a : y.kind ≡ 37 = heads y.kind 37 y.ws (e ∷ us) (words_at k (index_of c)) y.words w in
-    let d : y.ws ≡ e ∷ us = tails y.kind 37 y.ws (e ∷ us) (words_at k (index_of c)) y.words w in
-    let first : Listed k b e (y.parts 0) = subst (λ (ws : List ℕ). Listed k b (slice_index ws 0) (y.parts 0)) d (y.each 0 b (subst (λ (ws : List ℕ). 0 < length ws) (sym d) (omega arith)) (subst (λ n. IsIndex b (role_at n b 0) b) (sym a) refl)) in
-    let same : y.parts 0 ≡ s.listing = same_listing k b e (y.parts 0) first s.listing s.listed in
-    let j = joined_first y.parts (length us) in
-    let whole : t.listing ≡ s.listing ++ (j.0 ++ own b c) = y.whole ∙ (ap (λ (ws : List ℕ). joined y.parts (length ws) ++ own b c) d ∙ (ap (λ (xs : List ℕ). xs ++ own b c) j.1 ∙ (append_assoc (y.parts 0) j.0 (own b c) ∙ ap (λ (xs : List ℕ). xs ++ (j.0 ++ own b c)) same))) in
-    record {
-      listing = t.listing;
-      listed = t.listed;
-      adds = t.adds ∙ (ap (λ (xs : List ℕ). adding xs t.listing) s.adds ∙ subst (λ (xs : List ℕ). adding (adding (olds before) s.listing) xs ≡ adding (olds before) xs) (sym whole) (adding_again (olds before) s.listing (j.0 ++ own b c)));
-    }
-
--- ---- the words of a key
-
--- what the first n words added
-pub record WordsAdd (k : Known) (b : Bool) (kind : ℕ) (ws : List ℕ) (n : ℕ) (before after : Pairs) : Type 0 where
-  pub parts : ℕ → List ℕ
-  pub each : (p : ℕ) (c : Bool) → p < n → IsIndex b (role_at kind b p) c → Listed k c (slice_index ws p) (parts p)
-  pub none : (p : ℕ) → p < n → role_at kind b p ≡ role.Number → parts p ≡ []
-  pub adds : olds after ≡ adding (olds before) (joined parts n)
-
-pub no_words : (k : Known) (b : Bool) (kind : ℕ) (ws : List ℕ) (moved : Pairs) → WordsAdd k b kind ws 0 moved moved
-no_words k b kind ws moved = record { parts = λ p. []; each = λ p c l x. absurd (omega (arith, l)); none = λ p l e. refl; adds = refl }
-
-record OfWord (k : Known) (b : Bool) (r : Role) (w : ℕ) (before after : Pairs) : Type 0 where
-  listing : List ℕ
-  listed : (c : Bool) → IsIndex b r c → Listed k c w listing
-  none : r ≡ role.Number → listing ≡ []
-  adds : olds after ≡ adding (olds before) listing
-
-of_word : (k : Known) (b : Bool) (r : Role) (w : ℕ) (before after : Pairs) → (r ≡ role.Rest → HasTree k before b w) → WordAdds k r w before after → OfWord k b r w before after
-of_word k b role.Number w before after g h = record { listing = []; listed = λ c x. absurd x; none = λ e. refl; adds = h }
-of_word k b role.Part w before after g h = record { listing = h.listing; listed = λ c x. subst (λ d. Listed k d w h.listing) (sym x) h.listed; none = λ e. cc; adds = h.adds }
-of_word k b role.List w before after g h = record { listing = h.listing; listed = λ c x. subst (λ d. Listed k d w h.listing) (sym x) h.listed; none = λ e. cc; adds = h.adds }
-of_word k b role.Rest w before after g h = let t = g refl in record { listing = t.listing; listed = λ c x. subst (λ d. Listed k d w t.listing) (sym x) t.listed; none = λ e. cc; adds = h ∙ sym (adding_same (olds before) t.listing t.moved_all) }
-
--- with one word more
-pub more_words : (k : Known) (b : Bool) (kind : ℕ) (ws : List ℕ) (n : ℕ) (before mid after : Pairs) → WordsAdd k b kind ws n before mid → (role_at kind b n ≡ role.Rest → HasTree k mid b (slice_index ws n)) → WordAdds k (role_at kind b n) (slice_index ws n) mid after → WordsAdd k b kind ws (suc n) before after
-more_words k b kind ws n before mid after s g h =
-    let w = of_word k b (role_at kind b n) (slice_index ws n) mid after g h in
-    let f : ℕ → List ℕ = λ p. if p == n then w.listing else s.parts p in
-    let here : f n ≡ w.listing = ap (λ c. if c then w.listing else s.parts n) (eq-eqb n n refl) in
-    let there : (p : ℕ) → p < n → f p ≡ s.parts p = λ p l. ap (λ c. if c then w.listing else s.parts p) (ne_eqb p n (λ e. absurd (omega (arith, l, e)))) in
-    let front : joined f n ≡ joined s.parts n = joined_same f s.parts n there in
-    record {
-      parts = f;
-      each = λ p c l x. ⊎_elim
-          (λ a. subst (Listed k c (slice_index ws p)) (sym (there p a)) (s.each p c a x))
-          (λ a. let e : n ≡ p = omega (arith, l, a) in subst (λ q. IsIndex b (role_at kind b q) c → Listed k c (slice_index ws q) (f q)) e (λ y. subst (Listed k c (slice_index ws n)) (sym here) (w.listed c y)) x)
-          (cases_lt p n);
-      none = λ p l x. ⊎_elim
-          (λ a. there p a ∙ s.none p a x)
-          (λ a. let e : n ≡ p = omega (arith, l, a) in subst (λ q. role_at kind b q ≡ role.Number → f q ≡ []) e (λ y. here ∙ w.none y) x)
-          (cases_lt p n);
-      adds = w.adds ∙ (ap (λ (xs : List ℕ). adding xs w.listing) s.adds ∙ (sym (adding_append (olds before) (joined s.parts n) w.listing) ∙ ap (adding (olds before)) (sym (ap₂ (λ (x y : List ℕ). x ++ y) front here))));
-    }
-
--- all words
-pub all_words : (k : Known) (b : Bool) (i kind : ℕ) (ws : List ℕ) (before after : Pairs) → words_at k (index_of i) ≡ Some (kind ∷ ws) → WordsAdd k b kind ws (length ws) before after → AddsParts k b i before after
-all_words k b i kind ws before after w s = record { listing = joined s.parts (length ws); listed = Row b i kind ws s.parts w s.each s.none; adds = s.adds }
-
--- ---- the live indices
-
-pub none_live : (k : Known) (moved : Pairs) → AddsAll k [] moved moved
-none_live k moved = record { listing = []; listed = refl; adds = refl }
-
-listed_push : (k : Known) (live : List Index) (i : Index) (a b : List ℕ) → AllListed k live a → Listed k false i.0 b → AllListed k (live ++ i ∷ []) (a ++ b)
-listed_push k [] i a b e h = (b, [], h, refl, ap (λ (xs : List ℕ). xs ++ b) e ∙ sym (append-nil b))
-listed_push k (x ∷ live) i a b s h = (s.0, s.1 ++ b, s.2, listed_push k live i s.1 b s.3 h, ap (λ (xs : List ℕ). xs ++ b) s.4 ∙ append_assoc s.0 s.1 b)
-
-pub more_live : (k : Known) (live : List Index) (i : Index) (before mid after : Pairs) → AddsAll k live before mid → AddsTree k false i.0 mid after → AddsAll k (live ++ i ∷ []) before after
-more_live k live i before mid after s t = record {
-  listing = s.listing ++ t.listing;
-  listed = listed_push k live i s.listing t.listing s.listed t.listed;
-  adds = t.adds ∙ (ap (λ (xs : List ℕ). adding xs t.listing) s.adds ∙ sym (adding_append (olds before) s.listing t.listing));
-}

@@ -1,6 +1,5 @@
 -- What a row needs to be moved, and what its new row denotes.
-use Rattle.std.proofs.Common.{◌≡◌, inl, inr, ⊎_elim, ◌⊎◌, ℕ, zero, suc, ◌+◌, ◌*◌, ◌<◌, ◌≤◌, ◌==◌, nat_lt, Bool, true, false, if◌then◌else◌, List, [], ◌∷◌, ◌++◌, length, get_or, slice_index, drop, Option, Some, IsSome, refl, sym, ap, ap₂, ◌∙◌, subst, arith}
-use Rattle.std.proofs.lemmas.Bool.{ne_eqb, eqb-true}
+use Rattle.std.proofs.Common.{◌≡◌, inl, inr, ⊎_elim, ◌⊎◌, ℕ, zero, suc, ◌+◌, ◌*◌, ◌<◌, ◌≤◌, Bool, true, false, if◌then◌else◌, List, [], ◌∷◌, ◌++◌, length, slice_index, drop, Option, Some, IsSome, refl, sym, ap, ap₂, ◌∙◌, subst, arith}
 use Rattle.type_form.specs.declared.index.Index.{Index}
 use Rattle.type_form.specs.declared.key.Key.{Key}
 use Rattle.type_form.specs.declared.key.Key.TheVariants as key
@@ -19,7 +18,7 @@ use Rattle.type_form.specs.Reach.{IsIndex, Word}
 use Rattle.pool_seat.specs.Reach.{Reached}
 use Rattle.pool_seat.specs.Movers.{AllDenote, Needs, WordReached, height, work, IsChain}
 use Rattle.type_form.specs.Parts.{PartOf, kind_of, rest_of}
-use Rattle.type_form.proofs.PartLemmas.{after_first, rest_role, parts_denote, list_in_some}
+use Rattle.type_form.proofs.PartLemmas.{after_first, parts_denote, list_in_some}
 use Rattle.pool_seat.proofs.Depths.{at_depth, key_words, some_of, one_some, height_least, greatest_has, greatest_back, In-at, In-front, In-back, WordFits, list_work, part_work, part_fits}
 
 -- the key of a list with a rest

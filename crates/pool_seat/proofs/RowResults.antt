@@ -1,12 +1,9 @@
 -- What the new row of a key denotes.
-use Rattle.std.proofs.Common.{◌≡◌, ⊎_elim, ℕ, zero, suc, ◌-◌, ◌<◌, ◌≤◌, nat_lt, Bool, true, false, if◌then◌else◌, List, [], ◌∷◌, ◌++◌, length, get_or, slice_index, drop, Some, option_and_then, refl, sym, ap, ap₂, ◌∙◌, subst, arith}
-use Rattle.std.proofs.lemmas.Bool.{cases_lt, lt-ltb, le-ltb}
-use Rattle.std.proofs.lemmas.List.{ext_get_or}
-use Rattle.type_form.specs.declared.key.Key.{Key}
+use Rattle.std.proofs.Common.{◌≡◌, ⊎_elim, ℕ, zero, suc, ◌-◌, ◌<◌, ◌≤◌, Bool, true, false, if◌then◌else◌, List, [], ◌∷◌, ◌++◌, length, slice_index, drop, Some, option_and_then, refl, sym, ap, ap₂, ◌∙◌, subst, arith}
 use Rattle.type_form.specs.declared.key.Key.TheVariants as key
 use Rattle.type_form.specs.Known.{Known, words_at}
-use Rattle.type_form.specs.Words.{index_of, words_of, Fits}
-use Rattle.type_form.specs.Denote.{Node, denoted, node_of, list_in, more_of}
+use Rattle.type_form.specs.Words.{index_of, words_of}
+use Rattle.type_form.specs.Denote.{denoted, node_of, list_in}
 use Rattle.type_form.specs.Means.{list_at}
 use Rattle.type_form.proofs.Depth.{denoted-is}
 use Rattle.type_form.proofs.MeansLemmas.{list_part, list_whole, HasKey-words, DenotesList-of}
@@ -14,7 +11,7 @@ use Rattle.pool_shard.specs.Pairs.{known}
 use Rattle.type_form.specs.declared.roles.Role.{Role}
 use Rattle.type_form.specs.declared.roles.Role.TheVariants as role
 use Rattle.pool_seat.specs.declared.mover.Mover.{Mover}
-use Rattle.type_form.specs.Roles.{roles_of, role_in_list, role_at}
+use Rattle.type_form.specs.Roles.{role_at}
 use Rattle.pool_seat.specs.Moves.{IsSame, Pairs, IsMoved, AreMoved, IsListMoved, Becomes, WordMoves, IsNewKey}
 use Rattle.pool_seat.specs.Movers.{Needs, WordBecomes, RowMeans, Later, IsMover}
 use Rattle.type_form.specs.Parts.{kind_of, rest_of, AllTurn, Turns, Made}

@@ -7,7 +7,7 @@ use Rattle.type_form.specs.Words.{index_of}
 use Rattle.type_form.specs.Denote.{Node, denoted, list_in}
 use Rattle.pool_words.specs.Layout.{Row, shard_of, IsLayout}
 use Rattle.pool_words.specs.Rule.{In}
-use Rattle.pool_shard.specs.Pairs.{Rows, known, HasNot, IsAtNumbers}
+use Rattle.pool_shard.specs.Pairs.{Rows, known, HasNot, IsAtNumbers, ArePlaced}
 use Rattle.type_form.specs.Roles.{role_at}
 use Rattle.pool_seat.specs.Reach.{Reached}
 use Rattle.type_form.specs.declared.roles.Role.{Role}
@@ -77,16 +77,11 @@ pub record HasMoved (k : Known) (live : List Index) (p : Rows) (moved : Pairs) :
   pub apart : AreApart p.view.log
   pub injective : IsInjective (known p)
 
--- a key that is needed, and that a shard doesn't take: its rows are at the numbers, and it is none of them
-pub record IsFull (k : Known) (live : List Index) (p : Rows) (moved : Pairs) (shard : ℕ) : Type 0 where
-  pub key : List ℕ
+-- a key that its shard doesn't take: the shard's rows are at the numbers, and it is none of them
+pub record IsRefused (p : Rows) (key : List ℕ) (shard : ℕ) : Type 0 where
   pub place : shard ≡ shard_of p.view.layout key
   pub numbers : IsAtNumbers p.view.layout p.view.log shard (length key)
   pub absent : (i : Index) → words_at (known p) i ≡ Some key → ⊥
-  pub of_parts : Bool
-  pub index : ℕ
-  pub reached : Reached k live of_parts index
-  pub new : IsNewKey k (known p) moved of_parts index key
 
 -- all was moved: each index that is reached, and to one index alone
 pub record IsRehomed (k : Known) (live : List Index) (p : Rows) (moved : Pairs) : Type 0 where
@@ -94,9 +89,10 @@ pub record IsRehomed (k : Known) (live : List Index) (p : Rows) (moved : Pairs) 
   pub whole : (i : ℕ) → Reached k live false i → (j : ℕ) × IsMoved moved i j
   pub once : (i j n : ℕ) → IsMoved moved i j → IsMoved moved i n → j ≡ n
 
--- a pool of so many shards and words
+-- a pool of so many shards and words, whose rows are such as it takes from its opening on
 pub record IsOpened (shards words : ℕ) (p : Rows) : Type 0 where
   pub laid : IsLayout p.view.layout
+  pub placed : ArePlaced p.view.layout p.view.log
   pub shards_are : p.view.layout.shards ≡ shards
   pub words_are : p.view.layout.words ≡ words
 

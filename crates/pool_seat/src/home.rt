@@ -5,7 +5,7 @@ ghost use Rattle.pool_words.specs.Rule.{In};
 ghost use Rattle.pool_shard.specs.Pairs.{known};
 ghost use Rattle.pool_seat.specs.Moves.{IsRehomed, IsOpened};
 ghost use Rattle.pool_seat.specs.Order.{IsInOrder};
-ghost use Rattle.pool_seat.specs.Rehoming.{GivesBack, IsFullAnswer};
+ghost use Rattle.pool_seat.specs.Rehoming.{fault_of, GivesBack, IsFullAnswer};
 
 use crate::mover::{Mover, Stop};
 use pool_shard::PoolRows;
@@ -24,7 +24,8 @@ pub struct Rehomed {
 /// Why rows were not moved. The old ones come back.
 #[derive(Drop)]
 pub enum RehomeFault {
-    /// The rows that are needed don't fit the words: this shard takes no more.
+    /// The rows that are needed don't fit the words: moved in their order, the first one that its
+    /// shard doesn't take is one of this shard.
     Full { shard: u32, old: PoolRows },
     OutOfMemory { old: PoolRows },
 }
@@ -35,6 +36,16 @@ fn zeros(alloc: Global, count: usize) -> Result<Vec<u64>, AllocError>
 {
     let zeros = vec![in alloc; 0u64; count]?;
     Ok(zeros)
+}
+
+/// The answer where no more is moved.
+fn fault_of(stop: Stop, old: PoolRows) -> RehomeFault
+    ensures { result ≡ fault_of stop old }
+{
+    match stop {
+        Stop::Full { shard } => RehomeFault::Full { shard, old },
+        Stop::OutOfMemory => RehomeFault::OutOfMemory { old },
+    }
 }
 
 /// Moves what the live indices denote, and all that they reach, to a new pool of as many shards and
@@ -53,7 +64,7 @@ pub fn rehome(
     requires denote { (i : Index) → In i live.now → IsSome (denoted (known old) i) }
     ensures opened { IfOk result (λ r. IsOpened old.view.layout.shards words r.rows) }
     ensures moved { IfOk result (λ r. IsRehomed (known old) live.now r.rows r.moved) }
-    ensures ordered { IfOk result (λ r. IsInOrder (known old) live.now r.moved) }
+    ensures ordered { IfOk result (λ r. IsInOrder (known old) live.now r.rows r.moved) }
     ensures back { IfErr result (GivesBack old) }
     ensures full { IfErr result (IsFullAnswer old live.now words) }
 {
@@ -85,7 +96,6 @@ pub fn rehome(
             rows,
             moved: Seq::of(moved),
         }),
-        Err(Stop::Full { shard }) => Err(RehomeFault::Full { shard, old }),
-        Err(Stop::OutOfMemory) => Err(RehomeFault::OutOfMemory { old }),
+        Err(stop) => Err(fault_of(stop, old)),
     }
 }

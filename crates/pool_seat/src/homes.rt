@@ -5,8 +5,8 @@ ghost use Rattle.pool_words.specs.Rule.{In};
 ghost use Rattle.pool_shard.specs.Pairs.{known};
 
 use crate::{RehomeFault, rehome};
-use pool_shard::PoolRows;
-use std::alloc::Global;
+use pool_shard::{PoolRows, hash_key};
+use std::alloc::{AllocError, Global};
 use std::test::Fail;
 use type_form::Index;
 
@@ -111,14 +111,14 @@ fn moves_a_list_from_its_end(rt: HostRuntime) -> Result<(), Fail> {
     Ok(())
 }
 
-/// So many lists of one number.
-fn lists(alloc: Global, rows: &mut PoolRows, count: u64) -> Option<Vec<Index>>
+/// A list of each of some numbers alone.
+fn lists(alloc: Global, rows: &mut PoolRows, numbers: &[u64]) -> Option<Vec<Index>>
     ensures layout { rows.new.view.layout ≡ rows.old.view.layout }
     ensures denote { IfSome result (λ v. (i : Index) → In i v.items → IsSome (denoted (known rows.new) i)) }
 {
     let mut all = Vec::new(alloc);
-    for n in 0..count {
-        let Ok(i) = rows.intern(&[36, n]) else {
+    for n in numbers {
+        let Ok(i) = rows.intern(&[36, *n]) else {
             return None;
         };
         let Ok(()) = all.push(i) else {
@@ -131,7 +131,11 @@ fn lists(alloc: Global, rows: &mut PoolRows, count: u64) -> Option<Vec<Index>>
 #[test]
 fn rows_that_do_not_fit_come_back(rt: HostRuntime) -> Result<(), Fail> {
     let mut old = PoolRows::open(rt.alloc(), 1, 8192)?;
-    let Some(live) = lists(rt.alloc(), &mut old, 300) else {
+    let mut numbers = Vec::new(rt.alloc());
+    for n in 0..300u64 {
+        numbers.push(n)?;
+    }
+    let Some(live) = lists(rt.alloc(), &mut old, numbers.as_slice()) else {
         panic!(rt; "no room")
     };
     match rehome(rt.alloc(), old, live.as_slice(), 1024) {
@@ -141,6 +145,38 @@ fn rows_that_do_not_fit_come_back(rt: HostRuntime) -> Result<(), Fail> {
             for (n, i) in live.iter().enumerate() {
                 assert_eq!(rt; old.find(&[36, n as u64]), Some(*i));
             }
+            Ok(())
+        }
+        _ => panic!(rt; "they fit"),
+    }
+}
+
+/// As many numbers whose lists are in a shard of two.
+fn numbers_of(numbers: &mut Vec<u64>, shard: u64, count: u64) -> Result<(), AllocError> {
+    let mut left = count;
+    for n in 0..10_000u64 {
+        if left > 0 && hash_key(&[36, n]) % 2 == shard {
+            left -= 1;
+            numbers.push(n)?;
+        }
+    }
+    Ok(())
+}
+
+#[test]
+fn the_shard_that_is_full_first_is_named(rt: HostRuntime) -> Result<(), Fail> {
+    // A shard of 1,024 words takes 64 rows. Both shards are asked for one more, shard 1 first.
+    let mut old = PoolRows::open(rt.alloc(), 2, 16384)?;
+    let mut numbers = Vec::new(rt.alloc());
+    numbers_of(&mut numbers, 1, 65)?;
+    numbers_of(&mut numbers, 0, 65)?;
+    assert_eq!(rt; numbers.len(), 130);
+    let Some(live) = lists(rt.alloc(), &mut old, numbers.as_slice()) else {
+        panic!(rt; "no room")
+    };
+    match rehome(rt.alloc(), old, live.as_slice(), 2048) {
+        Err(RehomeFault::Full { shard, .. }) => {
+            assert_eq!(rt; shard, 1);
             Ok(())
         }
         _ => panic!(rt; "they fit"),

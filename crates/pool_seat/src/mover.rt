@@ -1,5 +1,5 @@
 // The rows that are reached, moved from one pool to another, each after those that it holds.
-ghost use Rattle.std.specs.Prelude.{◌≡◌, ℕ, Bool, false, ◌<◌, ◌≤◌, List, [], ◌∷◌, length, slice_index, vec_len, IfOk, OnOk, IfErr, IfSome, IfNone, IsSome, Some, MatchBool};
+ghost use Rattle.std.specs.Prelude.{◌≡◌, ℕ, Bool, false, ◌<◌, ◌≤◌, List, [], ◌∷◌, length, slice_index, vec_len, IfOk, OnOk, IfErr, OnErr, IfSome, IfNone, IsSome, Some};
 ghost use Rattle.type_form.specs.Known.{words_at};
 ghost use Rattle.type_form.specs.Words.{index_of};
 ghost use Rattle.type_form.specs.Denote.{denoted};
@@ -7,8 +7,10 @@ ghost use Rattle.pool_words.specs.Rule.{In};
 ghost use Rattle.pool_shard.specs.Pairs.{known};
 ghost use Rattle.pool_seat.specs.Reach.{Reached};
 ghost use Rattle.pool_seat.specs.Moves.{IsMoved, Becomes, IsNewKey};
-ghost use Rattle.pool_seat.specs.Order.{added, olds};
-ghost use Rattle.pool_seat.specs.Movers.{Needs, WordNeeds, WordReached, WordBecomes, HasRow, IsChain, Later, HasTree, HasParts, AddsTree, AddsParts, WordAdds, AddsAll, IsMover, IsStop};
+ghost use Rattle.pool_seat.specs.Order.{added, olds, places};
+ghost use Rattle.pool_seat.specs.Movers.{Needs, WordNeeds, WordReached, WordBecomes, HasRow, IsChain, Later, SameNew, HasParts};
+ghost use Rattle.pool_seat.specs.Movers.{MovesTree, WordMoved, MovesRow, MovesKey, MovesAll};
+ghost use Rattle.pool_seat.specs.Movers.{IsStopInTree, IsStopInWord, IsStopInKey, IsStopInAll, IsStopAtKey, IsMover};
 ghost use Rattle.pool_seat.specs.declared.mover.Stop.TheVariants.{OutOfMemory};
 
 use pool_shard::PoolRows;
@@ -43,7 +45,7 @@ impl<'a> Mover<'a> {
         requires known { IsSome (words_at (known self.old.from) (index_of i)) }
         ensures mover { IsMover self.new }
         ensures later { Later self.old self.new }
-        ensures same { self.new.moved.items ≡ self.old.moved.items }
+        ensures same { SameNew self.old self.new }
         ensures words { words_at (known self.old.from) (index_of i) ≡ Some into.new }
     {
         self.from.key_into(Index(i), into);
@@ -59,7 +61,9 @@ impl<'a> Mover<'a> {
         ensures later { Later self.old self.new }
         ensures same { self.new.moved.items ≡ self.old.moved.items }
         ensures place { IfOk result (λ j. words_at (known self.new.to) (index_of j) ≡ Some key.now) }
-        ensures stop { IfErr result (IsStop self.new) }
+        ensures row { IfOk result (λ j. places self.new.to ≡ added (places self.old.to) j) }
+        ensures stop { IfErr result (IsStopAtKey self.new key.now) }
+        ensures rows { OnErr result (places self.new.to ≡ places self.old.to) }
     {
         match self.to.intern(key) {
             Ok(j) => Ok(j.0),
@@ -83,12 +87,13 @@ impl<'a> Mover<'a> {
         requires mover { IsMover self.old }
         requires reached { Reached (known self.old.from) self.old.live.now false i }
         requires row { HasRow self.old false i j }
-        requires parts { HasParts (known self.old.from) self.old.moved.items false i }
+        requires parts { HasParts (known self.old.from) self.old.to self.old.moved.items false i }
         ensures mover { IsMover self.new }
         ensures later { Later self.old self.new }
         ensures moved { IfOk result (IsMoved self.new.moved.items i) }
+        ensures to { self.new.to ≡ self.old.to }
         ensures adds { OnOk result (olds self.new.moved.items ≡ added (olds self.old.moved.items) i) }
-        ensures stop { IfErr result (IsStop self.new) }
+        ensures stop { IfErr result (λ e. e ≡ OutOfMemory) }
     {
         if let Some(known) = self.find(i) {
             return Ok(known);
@@ -110,10 +115,10 @@ impl<'a> Mover<'a> {
         requires known { IsSome (denoted (known self.old.from) (index_of i)) }
         ensures mover { IsMover self.new }
         ensures later { Later self.old self.new }
-        ensures same { self.new.moved.items ≡ self.old.moved.items }
+        ensures same { SameNew self.old self.new }
         ensures chain { IfOk result (IsChain (known self.old.from) i chunks.new.items) }
         ensures last { IfOk result (λ e. (x : ℕ) (ns : List ℕ) → words_at (known self.old.from) (index_of e) ≡ Some (37 ∷ x ∷ ns) → ⊥) }
-        ensures stop { IfErr result (IsStop self.new) }
+        ensures stop { IfErr result (λ e. e ≡ OutOfMemory) }
     {
         let mut at = i;
         loop {
@@ -137,8 +142,8 @@ impl<'a> Mover<'a> {
         ensures mover { IsMover self.new }
         ensures later { Later self.old self.new }
         ensures live { OnOk result ((i : Index) → In i self.new.live.now → (j : ℕ) × IsMoved self.new.moved.items i.0 j) }
-        ensures adds { OnOk result (AddsAll (known self.old.from) self.old.live.now self.old.moved.items self.new.moved.items) }
-        ensures stop { IfErr result (IsStop self.new) }
+        ensures moves { OnOk result (MovesAll (known self.old.from) self.old.live.now self.old self.new) }
+        ensures stop { IfErr result (IsStopInAll (known self.old.from) self.old.live.now self.old self.new) }
     {
         let live = self.live;
         for at in 0..live.len() {
@@ -157,8 +162,8 @@ impl<'a> Mover<'a> {
         ensures mover { IsMover self.new }
         ensures later { Later self.old self.new }
         ensures moved { IfOk result (Becomes (known self.new.from) (known self.new.to) self.new.moved.items of_parts i) }
-        ensures adds { OnOk result (AddsTree (known self.old.from) of_parts i self.old.moved.items self.new.moved.items) }
-        ensures stop { IfErr result (IsStop self.new) }
+        ensures moves { OnOk result (MovesTree (known self.old.from) of_parts i self.old self.new) }
+        ensures stop { IfErr result (IsStopInTree (known self.old.from) of_parts i self.old self.new) }
     {
         let mut chunks = Vec::new(self.alloc);
         let last = self.last_of(i, &mut chunks)?;
@@ -176,12 +181,11 @@ impl<'a> Mover<'a> {
         requires needs { Needs (known self.old.from) of_parts i }
         requires reached { Reached (known self.old.from) self.old.live.now of_parts i }
         requires rest { (x : ℕ) (ns : List ℕ) → words_at (known self.old.from) (index_of i) ≡ Some (37 ∷ x ∷ ns) → Becomes (known self.old.from) (known self.old.to) self.old.moved.items of_parts x rest }
-        requires tree { (x : ℕ) (ns : List ℕ) → words_at (known self.old.from) (index_of i) ≡ Some (37 ∷ x ∷ ns) → HasTree (known self.old.from) self.old.moved.items of_parts x }
         ensures mover { IsMover self.new }
         ensures later { Later self.old self.new }
         ensures moved { IfOk result (Becomes (known self.new.from) (known self.new.to) self.new.moved.items of_parts i) }
-        ensures adds { OnOk result (AddsTree (known self.old.from) of_parts i self.old.moved.items self.new.moved.items) }
-        ensures stop { IfErr result (IsStop self.new) }
+        ensures moves { OnOk result (MovesKey (known self.old.from) of_parts i self.old self.new) }
+        ensures stop { IfErr result (IsStopInKey (known self.old.from) of_parts i self.old self.new) }
     {
         let new = self.row(i, of_parts, rest)?;
         if of_parts { Ok(new) } else { self.note(i, new) }
@@ -194,12 +198,11 @@ impl<'a> Mover<'a> {
         requires needs { Needs (known self.old.from) of_parts i }
         requires reached { Reached (known self.old.from) self.old.live.now of_parts i }
         requires rest { (x : ℕ) (ns : List ℕ) → words_at (known self.old.from) (index_of i) ≡ Some (37 ∷ x ∷ ns) → Becomes (known self.old.from) (known self.old.to) self.old.moved.items of_parts x rest }
-        requires tree { (x : ℕ) (ns : List ℕ) → words_at (known self.old.from) (index_of i) ≡ Some (37 ∷ x ∷ ns) → HasTree (known self.old.from) self.old.moved.items of_parts x }
         ensures mover { IsMover self.new }
         ensures later { Later self.old self.new }
         ensures moved { IfOk result (HasRow self.new of_parts i) }
-        ensures adds { OnOk result (AddsParts (known self.old.from) of_parts i self.old.moved.items self.new.moved.items) }
-        ensures stop { IfErr result (IsStop self.new) }
+        ensures moves { IfOk result (MovesRow (known self.old.from) of_parts i self.old self.new) }
+        ensures stop { IfErr result (IsStopInKey (known self.old.from) of_parts i self.old self.new) }
     {
         let mut words = KeyBuf::new();
         self.read(i, &mut words);
@@ -223,8 +226,8 @@ impl<'a> Mover<'a> {
         ensures mover { IsMover self.new }
         ensures later { Later self.old self.new }
         ensures moved { IfOk result (WordBecomes self.new role rest word) }
-        ensures adds { OnOk result (WordAdds (known self.old.from) role word self.old.moved.items self.new.moved.items) }
-        ensures stop { IfErr result (IsStop self.new) }
+        ensures moves { OnOk result (WordMoved (known self.old.from) role word self.old self.new) }
+        ensures stop { IfErr result (IsStopInWord (known self.old.from) role word self.old self.new) }
     {
         match role {
             Role::Number => Ok(word),

@@ -1,4 +1,4 @@
-use Rattle.std.proofs.Common.{⊎_elim, IsSome, [], ◌∷◌, sym, ◌∙◌, subst, arith}
+use Rattle.std.proofs.Common.{⊎_elim, get_or, IsSome, [], ◌∷◌, sym, ◌∙◌, subst, arith}
 use Rattle.type_form.specs.Denote.{denoted}
 use Rattle.pool_words.specs.Rule.{In}
 use Rattle.pool_words.proofs.Members.{In-push}
@@ -13,6 +13,6 @@ loop-n-preserved c =
       layout = c.intern.ensures.rows.layout ∙ c.loop-n.invariant.layout;
       denote = λ i h. ⊎_elim
           (λ o. still_denotes (known c.loop-n.rows) k i c.intern.ensures.grows.kept.keeps (c.loop-n.invariant.denote i o))
-          (λ e. subst (λ x. IsSome (denoted k x)) (sym e) (end_denotes k c.in-Ok.i (c.loop-n.n ∷ []) (omega arith) c.in-Ok.ensures.place))
+          (λ e. subst (λ x. IsSome (denoted k x)) (sym e) (end_denotes k c.in-Ok.i (get_or c.args.numbers.now c.loop-n.n-index 0 ∷ []) (omega arith) c.in-Ok.ensures.place))
           (In-push i c.in-Ok.i c.loop-n.all.items (subst (In i) c.in-Ok-push.ensures.items h));
     }

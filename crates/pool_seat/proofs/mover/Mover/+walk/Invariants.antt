@@ -2,8 +2,7 @@ use Rattle.std.proofs.Common.{◌≡◌, ℕ, ◌+◌, ◌*◌, ◌-◌, ◌<◌
 use Rattle.pool_shard.specs.Pairs.{known}
 use Rattle.type_form.specs.Roles.{role_at}
 use Rattle.pool_seat.specs.Moves.{Becomes}
-use Rattle.pool_seat.specs.Movers.{WordBecomes, work, word_work, IsChain, Later, AddsTree, IsMover}
-use Rattle.pool_seat.proofs.Ordering.{WordsAdd}
+use Rattle.pool_seat.specs.Movers.{WordBecomes, work, word_work, IsChain, Later, MovesTree, MovesFront, IsMover}
 use Rattle.pool_seat.proofs.mover.Mover.+walk.Given as goal
 
 abbrev pub decreases-visit : goal.decreases-visit
@@ -25,7 +24,7 @@ invariant-visit-loop-chunk l = record {
   end : ℕ;
   chain : IsChain (known l.fn.self.from) l.i l.chunks.items end;
   done : Becomes (known l.self.from) (known l.self.to) l.self.moved.items l.of_parts end l.new;
-  adds : AddsTree (known l.fn.self.from) l.of_parts end l.fn.self.moved.items l.self.moved.items;
+  moves : MovesTree (known l.fn.self.from) l.of_parts end l.fn.self l.self;
 }
 
 abbrev pub decreases-visit-loop-chunk : goal.decreases-visit-loop-chunk
@@ -38,5 +37,5 @@ invariant-row-loop-at l = record {
   as_long : length l.into ≡ l.at;
   first : slice_index l.into 0 ≡ l.kind;
   built : (q : ℕ) → 0 < q → q < l.at → WordBecomes l.self (role_at l.kind l.of_parts (q - 1)) l.rest (slice_index l.words q) (slice_index l.into q);
-  adds : WordsAdd (known l.fn.self.from) l.of_parts (slice_index l.words 0) (drop 1 l.words) (l.at - 1) l.fn.self.moved.items l.self.moved.items;
+  moves : MovesFront (known l.fn.self.from) l.of_parts (slice_index l.words 0) (drop 1 l.words) (l.at - 1) l.fn.self l.self;
 }

@@ -4,7 +4,7 @@ use Rattle.type_form.specs.Words.{index_of}
 use Rattle.type_form.specs.Denote.{denoted}
 use Rattle.pool_shard.specs.Pairs.{known}
 use Rattle.pool_seat.specs.Movers.{IsChain, height}
-use Rattle.pool_seat.proofs.Moving.{denoted_words, Later-trans, Later-known}
+use Rattle.pool_seat.proofs.Moving.{denoted_words, Later-trans, Later-known, SameNew-trans}
 use Rattle.pool_seat.proofs.Depths.{some_of}
 use Rattle.pool_seat.proofs.RowMoves.{row_starts, list_starts, rest_less, chain_push}
 use Rattle.pool_seat.proofs.mover.Mover.last_of.Goals as goal
@@ -58,13 +58,13 @@ loop-words-preserved c =
     record {
       mover = c.read.ensures.mover;
       later = Later-trans c.args.self.now c.loop-words.self c.read.new.self v.later c.read.ensures.later;
-      same = c.read.ensures.same ∙ v.same;
+      same = SameNew-trans c.args.self.now c.loop-words.self c.read.new.self v.same c.read.ensures.same;
       there = subst (λ (ws : List ℕ). IsSome (denoted k (index_of (slice_index ws 1)))) (sym m.2) l.0;
       chain = subst (λ (ws : List ℕ). IsChain k c.args.i c.push.new.self.items (slice_index ws 1)) (sym m.2) (subst (λ (cs : List ℕ). IsChain k c.args.i cs m.0) (sym c.in-Ok.ensures.items) (chain_push k c.args.i c.loop-words.chunks.items c.loop-words.at m.0 m.1 v.chain m.3));
     }
 
 pub returns-then-words-ne37-clause-same : goal.returns-then-words-ne37-clause-same
-returns-then-words-ne37-clause-same c = c.read.ensures.same ∙ c.loop-words.invariant.same
+returns-then-words-ne37-clause-same c = SameNew-trans c.args.self.now c.loop-words.self c.read.new.self c.loop-words.invariant.same c.read.ensures.same
 
 pub returns-in_default-clause-same : goal.returns-in_default-clause-same
-returns-in_default-clause-same c = c.read.ensures.same ∙ c.loop-words.invariant.same
+returns-in_default-clause-same c = SameNew-trans c.args.self.now c.loop-words.self c.read.new.self c.loop-words.invariant.same c.read.ensures.same

@@ -34,10 +34,11 @@ returns-in_default-push-clause-mover c =
     let h = c.requires.mover in
     record {
       has = subst (HasMoved (known m.from) m.live.now m.to) (sym c.in_default-push.ensures.items) h.has;
+      placed = h.placed;
       inside = h.inside;
       listed = λ i j t. subst (λ l. IsMoved l i j) (sym c.in_default-push.ensures.items) (h.listed i j t);
       entered = λ i j t. h.entered i j (subst (λ l. IsMoved l i.0 j.0) c.in_default-push.ensures.items t);
-      trees = subst (λ (u : Pairs). (i j : ℕ) → IsMoved u i j → HasTree (known m.from) u false i) (sym c.in_default-push.ensures.items) h.trees;
+      trees = subst (λ (u : Pairs). (i j : ℕ) → IsMoved u i j → HasTree (known m.from) m.to u false i) (sym c.in_default-push.ensures.items) h.trees;
     }
 
 pub returns-clause-mover : goal.returns-clause-mover
@@ -47,7 +48,7 @@ returns-clause-mover c =
     let s = r.means in
     let h = c.requires.mover.inside (index_of c.args.i) (denoted_words (known m.from) (index_of c.args.i) s.node s.before) in
     IsMover-note m (record { alloc = m.alloc; live = m.live; from = m.from; to = m.to; table = with_item m.table c.args.i (c.args.j + 1); moved = c.push.new.self }) c.args.i c.args.j c.requires.mover
-    (HasMoved-notes (known m.from) m.live.now m.to m.moved.items c.args.i c.args.j c.requires.mover.has c.requires.reached s r.key r.there r.new) c.in_default.ensures.none h (trees_note (known m.from) m.moved.items c.args.i c.args.j c.requires.mover.trees c.requires.parts) refl refl refl refl c.in-Ok.ensures.items
+    (HasMoved-notes (known m.from) m.live.now m.to m.moved.items c.args.i c.args.j c.requires.mover.has c.requires.reached s r.row.key r.row.there r.row.new) c.in_default.ensures.none h (trees_note (known m.from) m.to m.moved.items c.args.i c.args.j c.requires.mover.trees c.requires.parts r.row) refl refl refl refl c.in-Ok.ensures.items
 
 pub returns-clause-later : goal.returns-clause-later
 returns-clause-later c =

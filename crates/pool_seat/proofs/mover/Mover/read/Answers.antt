@@ -12,8 +12,9 @@ returns-clause-mover c =
     let e : known c.key_into.new.self ≡ known m.from = ap known_of c.key_into.ensures.same in
     record {
       has = subst (λ (k : Known). HasMoved k m.live.now m.to m.moved.items) (sym e) h.has;
+      placed = h.placed;
       inside = λ i s. h.inside i (subst (λ (k : Known). IsSome (words_at k i)) e s);
       listed = h.listed;
       entered = h.entered;
-      trees = λ i j s. subst (λ (k : Known). HasTree k m.moved.items false i) (sym e) (h.trees i j s);
+      trees = λ i j s. subst (λ (k : Known). HasTree k m.to m.moved.items false i) (sym e) (h.trees i j s);
     }
