@@ -4,3 +4,4 @@ pub mod Resting
 pub mod Bounds
 pub mod GroupRuns
 pub mod ClaimCounts
+pub mod NamedLogs

@@ -2,3 +2,4 @@ pub mod Honest
 pub mod Laws
 pub mod Groups
 pub mod Claims
+pub mod Renaming

@@ -10,6 +10,7 @@
 
 ghost use Rattle.sched_laws.specs.Laws.{EveryMoment, LastMoment, KeptAgain, CleanRunsStay, OneMore, RoomLeft};
 ghost use Rattle.sched_laws.specs.Claims.{ClaimsFew};
+ghost use Rattle.sched_laws.specs.Renaming.{Renaming};
 ghost use Rattle.sched_laws.specs.Groups.{WholeRuns, PartsMeet, PartsNeed, RunsLast};
 
 /// Every schedule ends in the results by rounds, the demanded units and the stuck ones.
@@ -42,4 +43,9 @@ pub fn groups_have_reasons<Question, Answer, Unit, Outcome>()
 /// that it is taken back, at most.
 pub fn claims_are_few<Question, Answer, Unit, Outcome>()
     ensures { ClaimsFew Question Answer Unit Outcome }
+{}
+
+/// A log over numbers is one over what they name, where the names tell the known units apart.
+pub fn logs_are_named<Number, Place, Unit, Outcome>()
+    ensures { Renaming Number Place Unit Outcome }
 {}
