@@ -5,3 +5,4 @@ pub mod Bounds
 pub mod GroupRuns
 pub mod ClaimCounts
 pub mod NamedLogs
+pub mod Pointers

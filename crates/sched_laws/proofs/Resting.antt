@@ -48,7 +48,7 @@ one-need l files roots u v w a b = elim (cases_lt a.needs_it.0 b.needs_it.0) [
 
 module _ {Q A U R : Type 0} (l : Language Q A U R) (files : Q → A) (roots : List U) (s : Schedule U R) (m : Moment l files roots s) (rest : IsAtRest l files roots s) where
   -- a known unit is done or waits
-  settled : (u : U) (x : Stand U R) → stand l.same_unit s u ≡ Some x → ((r : R) × (stand l.same_unit s u ≡ Some (at.Done r))) ⊎ ((v : U) × (stand l.same_unit s u ≡ Some (at.Waiting v)))
+  pub settled : (u : U) (x : Stand U R) → stand l.same_unit s u ≡ Some x → ((r : R) × (stand l.same_unit s u ≡ Some (at.Done r))) ⊎ ((v : U) × (stand l.same_unit s u ≡ Some (at.Waiting v)))
   settled u at.Queued is = absurd (rest.none_queued u is)
   settled u (at.Claimed w) is = absurd (rest.none_claimed u w is)
   settled u (at.Done r) is = inl (r, is)
@@ -98,7 +98,7 @@ module _ {Q A U R : Type 0} (l : Language Q A U R) (files : Q → A) (roots : Li
   undone-none v known none n None e = refl
   undone-none v known none n (Some x) e = let done : done_in l.same_unit s v ≡ Some x = final n v x known e in absurd (cc)
 
-  waiting-stuck : (u v : U) → stand l.same_unit s u ≡ Some (at.Waiting v) → Stuck l files roots u v
+  pub waiting-stuck : (u v : U) → stand l.same_unit s u ≡ Some (at.Waiting v) → Stuck l files roots u v
   waiting-stuck u v is =
       let waits : Waits l files s u v = m.waiting u v is in
       let v_known : IsKnown l.same_unit s v = waits.all v (needs-meets l files (run_in l files s u) v waits.need) in

@@ -3,3 +3,4 @@ pub mod Laws
 pub mod Groups
 pub mod Claims
 pub mod Renaming
+pub mod Cycles
