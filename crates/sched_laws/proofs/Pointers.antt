@@ -3,6 +3,7 @@ use Rattle.std.proofs.Common.{◌≡◌, ℕ, zero, suc, ◌+◌, ◌≤◌, ◌
 use Rattle.std.specs.Prelude.{if◌then◌else◌, IsSome}
 use Rattle.std.specs.List.{IsDistinct, AllByRecursion, list_any}
 use Rattle.std.specs.Cmp.{IsEquivalence}
+use Rattle.std.proofs.lemmas.Bool.{cases_lt}
 use Rattle.std.proofs.lemmas.Map.Made.{length-le_from_is_member}
 use Rattle.question_runs.specs.Rounds.{Language, Stuck}
 use Rattle.question_runs.specs.Kept.{KeptUnit}
@@ -12,7 +13,7 @@ use Rattle.sched_core.specs.declared.event.Stand.TheVariants as at
 use Rattle.sched_core.specs.Machine.{Schedule, IsSameness, stand, IsKnown, done_in, replay}
 use Rattle.sched_laws.specs.Honest.{run_in}
 use Rattle.sched_laws.specs.Laws.{IsUpdate, IsAtRest}
-use Rattle.sched_laws.specs.Cycles.{Leads, IsOnCycle, IsShown, IsAntisymmetric}
+use Rattle.sched_laws.specs.Cycles.{Leads, IsOnCycle, IsShown, IsAntisymmetric, IsOrder}
 use Rattle.sched_laws.proofs.EventFacts.{IsSome-value, IsSome-of, stand-done}
 use Rattle.sched_laws.proofs.Moments.{Moment, needs-meets, moment-of}
 use Rattle.sched_laws.proofs.Resting.{one-need, complete, settled, waiting-stuck}
@@ -24,12 +25,12 @@ module _ {Q A U R : Type 0} (l : Language Q A U R) (files : Q → A) (roots : Li
   leads-snoc zero u v w is stuck = (w, (subst (λ x. Stuck l files roots x w) (sym is) stuck, refl))
   leads-snoc (suc n) u v w (x, (first, rest)) stuck = (x, (first, leads-snoc n x v w rest stuck))
 
-  leads-trans : (n m : ℕ) (u v w : U) → Leads l files roots n u v → Leads l files roots m v w → (k : ℕ) × Leads l files roots k u w
+  pub leads-trans : (n m : ℕ) (u v w : U) → Leads l files roots n u v → Leads l files roots m v w → (k : ℕ) × Leads l files roots k u w
   leads-trans zero m u v w is later = (m, subst (λ x. Leads l files roots m x w) (sym is) later)
   leads-trans (suc n) m u v w (x, (first, rest)) later = let more : (k : ℕ) × Leads l files roots k x w = leads-trans n m x v w rest later in (suc more.0, (x, (first, more.1)))
 
   -- what a unit of a cycle leads to leads back to it
-  leads-back : (n : ℕ) (u v : U) → IsOnCycle l files roots u → Leads l files roots n u v → (k : ℕ) × Leads l files roots k v u
+  pub leads-back : (n : ℕ) (u v : U) → IsOnCycle l files roots u → Leads l files roots n u v → (k : ℕ) × Leads l files roots k v u
   leads-back zero u v cycle is = (0, sym is)
   leads-back (suc n) u v (c, (x, (first, round))) (w, (stuck, rest)) =
       let one : x ≡ w = one-need l files roots u x w first stuck in
@@ -123,3 +124,72 @@ module _ {Q A U R : Type 0} (l : Language Q A U R) (files : Q → A) (roots : Li
 pub stuck-lead : {Q A U R : Type 0} (l : Language Q A U R) (files : Q → A) (roots : List U) (kept : List (KeptUnit Q A U R)) (log : List (Event U R)) → IsUpdate l files roots kept log → IsAtRest l files roots (replay l.same_unit log) → (u v : U) → Stuck l files roots u v → (w : U) × ((n : ℕ) × (Leads l files roots n u w × IsOnCycle l files roots w))
 unfolding IsDistinct
 stuck-lead l files roots kept log update rest u v stuck = follow l files roots (replay l.same_unit log) (moment-of l files roots kept update.lawful update.is_kept log update.possible update.honest) rest update.lawful.units (suc (length (replay l.same_unit log))) [] u v (omega arith) tt tt tt stuck
+
+module _ {Q A U R : Type 0} (l : Language Q A U R) (files : Q → A) (roots : List U) (before : U → U → Bool) (order : IsOrder before) where
+  -- the first of what so many pointers lead to
+  first-of : (n : ℕ) (u v : U) → Leads l files roots n u v → (w : U) × (((k : ℕ) × Leads l files roots k u w) × ((k : ℕ) (x : U) → k ≤ n → Leads l files roots k u x → before x w ≡ false))
+  first-of zero u v is = (u, ((0, refl), λ k x below leads. first-here k x below leads))
+    where
+      first-here : (k : ℕ) (x : U) → k ≤ 0 → Leads l files roots k u x → before x u ≡ false
+      first-here zero x below leads = subst (λ z. before z u ≡ false) leads (order.not_self u)
+      first-here (suc k) x below leads = absurd (omega arith)
+  first-of (suc n) u v (y, (stuck, rest)) = choose (first-of n y v rest) (before u (first-of n y v rest).0) refl
+    where
+      choose : (f : (w : U) × (((k : ℕ) × Leads l files roots k y w) × ((k : ℕ) (x : U) → k ≤ n → Leads l files roots k y x → before x w ≡ false))) (b : Bool) → before u f.0 ≡ b → (w : U) × (((k : ℕ) × Leads l files roots k u w) × ((k : ℕ) (x : U) → k ≤ suc n → Leads l files roots k u x → before x w ≡ false))
+      choose f false is = (f.0, ((suc f.1.0.0, (y, (stuck, f.1.0.1))), later))
+        where
+          later : (k : ℕ) (x : U) → k ≤ suc n → Leads l files roots k u x → before x f.0 ≡ false
+          later zero x below leads = subst (λ z. before z f.0 ≡ false) leads is
+          later (suc k) x below (y', (stuck', leads)) = f.1.1 k x (omega arith) (subst (λ z. Leads l files roots k z x) (one-need l files roots u y' y stuck' stuck) leads)
+      choose f true is = (u, ((0, refl), later))
+        where
+          later : (k : ℕ) (x : U) → k ≤ suc n → Leads l files roots k u x → before x u ≡ false
+          later zero x below leads = subst (λ z. before z u ≡ false) leads (order.not_self u)
+          later (suc k) x below (y', (stuck', leads)) = order.after_all u f.0 x is (f.1.1 k x (omega arith) (subst (λ z. Leads l files roots k z x) (one-need l files roots u y' y stuck' stuck) leads))
+
+  -- what a unit of a cycle leads to, it leads to in one round
+  in-one-round : (c : ℕ) (u : U) → Leads l files roots (suc c) u u → (n : ℕ) (v : U) → Leads l files roots n u v → (k : ℕ) × ((k ≤ c) × Leads l files roots k u v)
+  in-one-round c u round zero v is = (0, (omega arith, is))
+  in-one-round c u round (suc n) v leads =
+      let last : (x : U) × (Leads l files roots n u x × Stuck l files roots x v) = leads-last n u v leads in
+      let earlier : (k : ℕ) × ((k ≤ c) × Leads l files roots k u last.0) = in-one-round c u round n last.0 last.1.0 in
+      elim (cases_lt earlier.0 c) [
+        | inl less ↦ (suc earlier.0, (omega arith, leads-snoc l files roots earlier.0 u last.0 v earlier.1.1 last.1.1))
+        | inr reached ↦
+            let all : earlier.0 ≡ c = let low : earlier.0 ≤ c = earlier.1.0 in omega arith in
+            let there : Leads l files roots c u last.0 = subst (λ k. Leads l files roots k u last.0) all earlier.1.1 in
+            let home : (x : U) × (Leads l files roots c u x × Stuck l files roots x u) = leads-last c u u round in
+            let one : home.0 ≡ last.0 = leads-one c u home.0 last.0 home.1.0 there in
+            let same : u ≡ v = one-need l files roots last.0 u v (subst (λ z. Stuck l files roots z u) one home.1.1) last.1.1 in
+            (0, (omega arith, same))
+      ]
+    where
+      leads-last : (k : ℕ) (a b : U) → Leads l files roots (suc k) a b → (x : U) × (Leads l files roots k a x × Stuck l files roots x b)
+      leads-last zero a b (w, (stuck, is)) = (a, (refl, subst (λ z. Stuck l files roots a z) is stuck))
+      leads-last (suc k) a b (w, (stuck, more)) = let deeper : (x : U) × (Leads l files roots k w x × Stuck l files roots x b) = leads-last k w b more in (deeper.0, ((w, (stuck, deeper.1.0)), deeper.1.1))
+
+      leads-one : (k : ℕ) (a x y : U) → Leads l files roots k a x → Leads l files roots k a y → x ≡ y
+      leads-one zero a x y is is' = sym is ∙ is'
+      leads-one (suc k) a x y (w, (stuck, more)) (w', (stuck', more')) = leads-one k w x y more (subst (λ z. Leads l files roots k z y) (one-need l files roots a w' w stuck' stuck) more')
+
+  pub cycle-shown : (u : U) → IsOnCycle l files roots u → (w : U) × (((n : ℕ) × Leads l files roots n u w) × IsShown l files roots before w)
+  cycle-shown u (c, round) =
+      let f : (w : U) × (((k : ℕ) × Leads l files roots k u w) × ((k : ℕ) (x : U) → k ≤ suc c → Leads l files roots k u x → before x w ≡ false)) = first-of (suc c) u u round in
+      let back : (k : ℕ) × Leads l files roots k f.0 u = leads-back l files roots f.1.0.0 u f.0 (c, round) f.1.0.1 in (
+        f.0,
+        (
+          f.1.0,
+          record {
+            on_cycle = shown-on-cycle f.1.0.0 f.0 f.1.0.1 back;
+            first = λ n v leads.
+                let whole : (k : ℕ) × Leads l files roots k u v = leads-trans l files roots f.1.0.0 n u f.0 v f.1.0.1 leads in
+                let short : (k : ℕ) × ((k ≤ c) × Leads l files roots k u v) = in-one-round c u round whole.0 v whole.1 in
+                f.1.1 short.0 v (let low : short.0 ≤ c = short.1.0 in omega arith) short.1.1;
+          },
+        ),
+      )
+    where
+      -- it is on the cycle, since it leads back to the unit that leads to it
+      shown-on-cycle : (n : ℕ) (w : U) → Leads l files roots n u w → (k : ℕ) × Leads l files roots k w u → IsOnCycle l files roots w
+      shown-on-cycle n w there (zero, is) = subst (IsOnCycle l files roots) (sym is) (c, round)
+      shown-on-cycle n w there (suc k, (x, (stuck, rest))) = let whole : (j : ℕ) × Leads l files roots j x w = leads-trans l files roots k n x u w rest there in (whole.0, (x, (stuck, whole.1)))

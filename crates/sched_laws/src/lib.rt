@@ -11,7 +11,7 @@
 ghost use Rattle.sched_laws.specs.Laws.{EveryMoment, LastMoment, KeptAgain, CleanRunsStay, OneMore, RoomLeft};
 ghost use Rattle.sched_laws.specs.Claims.{ClaimsFew};
 ghost use Rattle.sched_laws.specs.Renaming.{Renaming};
-ghost use Rattle.sched_laws.specs.Cycles.{CyclesShowOnce, StuckLeadIntoCycles};
+ghost use Rattle.sched_laws.specs.Cycles.{CyclesShowOnce, CyclesAreShown, StuckLeadIntoCycles};
 ghost use Rattle.sched_laws.specs.Groups.{WholeRuns, PartsMeet, PartsNeed, RunsLast};
 
 /// Every schedule ends in the results by rounds, the demanded units and the stuck ones.
@@ -51,8 +51,9 @@ pub fn logs_are_named<Number, Place, Unit, Outcome>()
     ensures { Renaming Number Place Unit Outcome }
 {}
 
-/// Each stuck unit leads into a cycle of pointers, which is shown at one unit at most.
+/// Each stuck unit leads into a cycle of pointers, which is shown at exactly one unit.
 pub fn stuck_units_lead_into_cycles<Question, Answer, Unit, Outcome>()
-    ensures shown { CyclesShowOnce Question Answer Unit Outcome }
+    ensures once { CyclesShowOnce Question Answer Unit Outcome }
+    ensures shown { CyclesAreShown Question Answer Unit Outcome }
     ensures lead { StuckLeadIntoCycles Question Answer Unit Outcome }
 {}
