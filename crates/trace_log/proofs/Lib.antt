@@ -2,3 +2,4 @@ pub mod TableCases
 pub mod TableLemmas
 pub mod Sameness
 pub mod TraceLemmas
+pub mod Growing

@@ -1,5 +1,5 @@
 -- Parts, units and questions are one exactly where their indices are, and then they stand for the same.
-use Rattle.std.proofs.Common.{◌≡◌, ℕ, ◌==◌, Bool, true, false, ◌&&◌, Some, None, Option, List, [], ◌∷◌, ◌++◌, refl, sym, ap, ap₂, ◌∙◌, if◌then◌else◌}
+use Rattle.std.proofs.Common.{◌≡◌, ◌==◌, Bool, true, false, ◌&&◌, Some, Option, List, [], ◌∷◌, refl, sym, ap, ap₂, ◌∙◌, if◌then◌else◌}
 use Rattle.std.specs.Option.{option_map}
 use Rattle.std.proofs.lemmas.Bool.{eqb-true, eq-eqb}
 use Rattle.type_form.specs.declared.index.Index.{Index}
@@ -9,7 +9,6 @@ use Rattle.type_form.proofs.LayerLemmas.{ty_at-injective, decl_at-injective, ins
 use Rattle.question_runs.specs.Runs as runs
 use Rattle.elab_form.specs.Questions as plain
 use Rattle.elab_form.proofs.Sameness.{same_question-self as plain-self, same_question-true as plain-true, true-together}
-use Rattle.trace_log.specs.declared.answer.Answer.{Answer}
 use Rattle.trace_log.specs.declared.question.TextPart.{TextPart}
 use Rattle.trace_log.specs.declared.question.TextPart.TheVariants as part
 use Rattle.trace_log.specs.declared.question.UnitIndex.{UnitIndex}
@@ -139,3 +138,5 @@ recall-at k lines (move.Asked p a ∷ ms) q g h b =
       | true ↦ refl
       | false ↦ later
     ]
+
+pub ruleset traces_recalling = (same_question-at, recall-at)

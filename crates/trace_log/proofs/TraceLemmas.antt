@@ -1,5 +1,5 @@
 -- Moves that are put behind others.
-use Rattle.std.proofs.Common.{◌≡◌, ℕ, zero, suc, ◌+◌, ◌<◌, ◌≤◌, Bool, true, false, Some, None, Option, List, [], ◌∷◌, ◌++◌, length, refl, sym, ap, ◌∙◌, if◌then◌else◌, arith, length-append, subst}
+use Rattle.std.proofs.Common.{◌≡◌, ℕ, zero, suc, ◌+◌, ◌<◌, Bool, true, false, Some, None, Option, List, [], ◌∷◌, ◌++◌, length, refl, sym, ap, ◌∙◌, if◌then◌else◌, arith, length-append}
 use Rattle.std.specs.Prelude.{slice_get}
 use Rattle.elab_form.proofs.Sameness.{true-together}
 use Rattle.trace_log.specs.declared.answer.Answer.{Answer}
@@ -58,10 +58,10 @@ recall-asked : (ms : List Move) (q : Question) (a : Answer) (p : Question)
 recall-asked [] q a p = refl
 recall-asked (move.Asked r b ∷ ms) q a p =
     ap (λ x. if same_question r p then Some b else x) (recall-asked ms q a p)
-        ∙ elim (same_question r p) as (λ c. (if c then Some b else first_of (recall ms p) (if same_question q p then Some a else None)) ≡ first_of (if c then Some b else recall ms p) (if same_question q p then Some a else None)) [
-            true ↦ refl
-          | false ↦ refl
-          ]
+    ∙ elim (same_question r p) as (λ c. (if c then Some b else first_of (recall ms p) (if same_question q p then Some a else None)) ≡ first_of (if c then Some b else recall ms p) (if same_question q p then Some a else None)) [
+      | true ↦ refl
+      | false ↦ refl
+    ]
 recall-asked (move.Referred v ∷ ms) q a p = recall-asked ms q a p
 
 first-none : (r : Option Answer) → first_of r None ≡ r
@@ -75,16 +75,16 @@ found : (ms : List Move) (places now : Question → Option ℕ) (q : Question) (
 found ms places now q a n h none at p true same e =
     let one : p ≡ q = same_question-true p q same in
     let there : answer_by (ms ++ move.Asked q a ∷ []) (now p) ≡ Some a =
-        ap (answer_by (ms ++ move.Asked q a ∷ [])) (e ∙ ap Some at) ∙ ap answer_in (slice_get-last ms (move.Asked q a)) in
+    ap (answer_by (ms ++ move.Asked q a ∷ [])) (e ∙ ap Some at) ∙ ap answer_in (slice_get-last ms (move.Asked q a)) in
     let before : recall ms p ≡ None = ap (recall ms) one ∙ none in
     let back : same_question q p ≡ true = same_question-sym q p ∙ same in
     there ∙ sym (recall-asked ms q a p ∙ ap (λ r. first_of r (if same_question q p then Some a else None)) before ∙ ap (λ (c : Bool). if c then Some a else None) back)
 found ms places now q a n h none at p false same e =
     let back : same_question q p ≡ false = same_question-sym q p ∙ same in
     ap (answer_by (ms ++ move.Asked q a ∷ [])) e
-        ∙ (answer_by-front ms (move.Asked q a) (places p) (h.within p)
-        ∙ (h.finds p
-        ∙ sym (recall-asked ms q a p ∙ ap (λ (c : Bool). first_of (recall ms p) (if c then Some a else None)) back ∙ first-none (recall ms p))))
+    ∙ (answer_by-front ms (move.Asked q a) (places p) (h.within p)
+    ∙ (h.finds p
+    ∙ sym (recall-asked ms q a p ∙ ap (λ (c : Bool). first_of (recall ms p) (if c then Some a else None)) back ∙ first-none (recall ms p))))
 
 below : (ms : List Move) (places now : Question → Option ℕ) (q : Question) (a : Answer) (n : ℕ) → HasPlaces ms places → n ≡ length ms
     → (p : Question) (c : Bool) → now p ≡ (if c then Some n else places p) → (i : ℕ) → now p ≡ Some i → i < length (ms ++ move.Asked q a ∷ [])

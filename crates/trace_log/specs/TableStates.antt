@@ -1,6 +1,5 @@
 -- Which values stand in tables as they are kept.
-use Rattle.std.specs.Prelude.{◌≡◌, ℕ, ◌==◌, Bool, true, false, ◌&&◌, Option, None, Some, if◌then◌else◌}
-use Rattle.type_form.specs.declared.index.Index.{Index}
+use Rattle.std.specs.Prelude.{◌≡◌, ℕ, ◌==◌, Bool, false, ◌&&◌, Option, None, Some, if◌then◌else◌}
 use Rattle.trace_log.specs.declared.question.TextPart.{TextPart}
 use Rattle.trace_log.specs.declared.question.TextPart.TheVariants as part
 use Rattle.trace_log.specs.declared.question.UnitIndex.{UnitIndex}

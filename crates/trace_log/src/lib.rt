@@ -4,6 +4,7 @@
 #![tactic(auto)]
 
 mod answer;
+mod laws;
 mod question;
 mod result;
 mod shared;
@@ -11,6 +12,7 @@ mod tables;
 mod trace;
 
 pub use answer::{Answer, TreeRef};
+pub use laws::{growing_keeps_traces, traces_recall_by_indices};
 pub use question::{Question, TextPart, UnitIndex};
 pub use result::{Diagnostic, Spot, UnitResult, UnitValue};
 pub use shared::Shared;

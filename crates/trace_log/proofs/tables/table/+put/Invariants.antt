@@ -1,4 +1,4 @@
-use Rattle.std.proofs.Common.{ℕ, ◌+◌, ◌*◌}
+use Rattle.std.proofs.Common.{◌+◌, ◌*◌}
 use Rattle.trace_log.proofs.tables.table.+put.Given as goal
 
 abbrev pub decreases-put_beside : goal.decreases-put_beside

@@ -1,4 +1,3 @@
-use Rattle.std.proofs.Common.{sym}
 use Rattle.trace_log.proofs.TableCases.{pair_put}
 use Rattle.trace_log.proofs.tables.pairs.PairTable.put.Goals as goal
 
