@@ -3,3 +3,4 @@ pub mod TableLemmas
 pub mod Sameness
 pub mod TraceLemmas
 pub mod Growing
+pub mod NameLemmas

@@ -2,3 +2,4 @@ pub mod Readings
 pub mod Tables
 pub mod TableStates
 pub mod Traces
+pub mod Files

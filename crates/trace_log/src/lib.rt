@@ -5,6 +5,7 @@
 
 mod answer;
 mod laws;
+mod names;
 mod question;
 mod result;
 mod shared;
