@@ -3,3 +3,5 @@ pub mod Tables
 pub mod TableStates
 pub mod Traces
 pub mod Files
+pub mod Indices
+pub mod Snapshots

@@ -4,6 +4,7 @@
 #![tactic(auto)]
 
 mod answer;
+mod answers;
 mod laws;
 mod names;
 mod question;
@@ -13,6 +14,7 @@ mod tables;
 mod trace;
 
 pub use answer::{Answer, TreeRef};
+pub use answers::Answers;
 pub use laws::{growing_keeps_traces, traces_recall_by_indices};
 pub use question::{Question, TextPart, UnitIndex};
 pub use result::{Diagnostic, Spot, UnitResult, UnitValue};

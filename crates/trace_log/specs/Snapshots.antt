@@ -1,0 +1,65 @@
+-- What a snapshot answers, under the pairs that an interner knows.
+use Rattle.std.specs.Prelude.{◌≡◌, ℕ, List, [], Option, Some, None}
+use Rattle.std.specs.Option.{option_map, option_and_then}
+use Rattle.zir_form.specs.declared.form.Form.{Form}
+use Rattle.zir_form.specs.declared.front.Front.{Front}
+use Rattle.zir_form.specs.Front.{front_in, lines_in}
+use Rattle.type_form.specs.declared.index.Index.{Index}
+use Rattle.type_form.specs.declared.unit.Unit.{Unit as AnyUnit}
+use Rattle.type_form.specs.Known.{Known}
+use Rattle.type_form.specs.Means.{IsBytes}
+use Rattle.elab_form.specs.Questions as plain
+use Rattle.trace_log.specs.declared.answers.Answers.{Answers}
+use Rattle.trace_log.specs.declared.question.UnitIndex.{UnitIndex}
+use Rattle.trace_log.specs.declared.result.UnitResult.{UnitResult}
+use Rattle.trace_log.specs.Files.{Files, file_answer}
+use Rattle.trace_log.specs.Indices.{bytes_index, unit_index}
+use Rattle.trace_log.specs.Readings.{IsUnit, IsUnitResult, LinesOf, unit_result_at}
+use Rattle.trace_log.specs.TableStates.{table_get, unit_get}
+
+-- the front with a number
+unfoldable pub front_get : Answers → ℕ → Option Front
+front_get a number = table_get a.fronts number
+
+-- the number of the front of the file whose path is at an index
+unfoldable pub file_get : Answers → Index → Option ℕ
+file_get a path = table_get a.files path.0
+
+-- the result of a unit
+unfoldable pub result_get : Answers → UnitIndex → Option UnitResult
+result_get a unit = unit_get a.results unit
+
+-- the lines of each front
+abbrev pub front_lines : Option Front → List Form
+front_lines None = []
+front_lines (Some f) = lines_in f
+
+abbrev pub lines_of : Answers → LinesOf
+lines_of a number = front_lines (front_get a number)
+
+-- the front of the file whose path is at an index
+abbrev pub front_at : Answers → Index → Option Front
+front_at a path = option_and_then (front_get a) (file_get a path)
+
+-- ---- in plain trees
+
+-- the files that are there
+abbrev pub files_at : Known → Answers → Files
+files_at k a path = option_map front_in (option_and_then (front_at a) (bytes_index k path))
+
+-- the results that are there
+abbrev pub results_at : Known → Answers → AnyUnit → Option plain.UnitResult
+results_at k a u = option_map (unit_result_at k) (option_and_then (result_get a) (unit_index k u))
+
+-- The answer to a question, if there is one: to one about the files always, to one for a result where that is there.
+unfoldable pub given_at : Known → Answers → plain.Question → Option plain.Answer
+given_at k a (plain.text p) = Some (file_answer (files_at k a) (plain.text p))
+given_at k a (plain.name container name) = Some (file_answer (files_at k a) (plain.name container name))
+given_at k a (plain.import path) = Some (file_answer (files_at k a) (plain.import path))
+given_at k a (plain.result u) = option_map plain.answer_of (results_at k a u)
+
+-- the indices of a snapshot denote what is wanted there
+pub record AreAnswers (k : Known) (a : Answers) : Type 0 where
+  pub files : (path : Index) (number : ℕ) → file_get a path ≡ Some number → IsBytes k path
+  pub units : (u : UnitIndex) (r : UnitResult) → result_get a u ≡ Some r → IsUnit k u
+  pub results : (u : UnitIndex) (r : UnitResult) → result_get a u ≡ Some r → IsUnitResult k r
