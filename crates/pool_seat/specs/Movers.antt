@@ -223,7 +223,8 @@ pub record InKeyUpTo (k : Known) (of_parts : Bool) (i : ℕ) (done : List Source
   pub n : ℕ
   pub sources : List Source
   pub front : Front k of_parts kind ws n sources
-  pub way : ((n ≡ length ws) × (next ≡ (of_parts, i)) × (done ≡ sources)) ⊎ ((n < length ws) × (b : Bool) × (inner : List Source) × IsInner (role_at kind of_parts n) b × ListedUpTo k next b (slice_index ws n) inner × (done ≡ sources ++ inner))
+  pub way : ((n ≡ length ws) × (next ≡ (of_parts, i)) × (done ≡ sources))
+      ⊎ ((n < length ws) × (b : Bool) × (inner : List Source) × IsInner (role_at kind of_parts n) b × ListedUpTo k next b (slice_index ws n) inner × (done ≡ sources ++ inner))
 
 pub record StopsInKey (k : Known) (of_parts : Bool) (i : ℕ) (m n : Mover) (shard : ℕ) : Type 0 where
   pub done : List Source

@@ -21,7 +21,8 @@ joined parts (suc n) = joined parts n ++ parts n
 
 -- The sources in the tree of an index: each behind those that its key holds, and these from the left
 pub data Listed (k : Known) : Bool → ℕ → List Source → Type 0 where
-  Whole : (of_parts : Bool) (i kind : ℕ) (ws : List ℕ) (parts : ℕ → List Source) → words_at k (index_of i) ≡ Some (kind ∷ ws)
+  Whole : (of_parts : Bool) (i kind : ℕ) (ws : List ℕ) (parts : ℕ → List Source)
+      → words_at k (index_of i) ≡ Some (kind ∷ ws)
       → ((p : ℕ) (b : Bool) → p < length ws → IsIndex of_parts (role_at kind of_parts p) b → Listed k b (slice_index ws p) (parts p))
       → ((p : ℕ) → p < length ws → role_at kind of_parts p ≡ role.Number → parts p ≡ [])
       → Listed k of_parts i (joined parts (length ws) ++ (of_parts, i) ∷ [])
@@ -29,21 +30,27 @@ pub data Listed (k : Known) : Bool → ℕ → List Source → Type 0 where
 -- the trees of the live indices, one behind the other
 abbrev pub AllListed : Known → List Index → List Source → Type 0
 AllListed k [] sources = sources ≡ []
-AllListed k (i ∷ live) sources = (a : List Source) × (b : List Source) × Listed k false i.0 a × AllListed k live b × (sources ≡ a ++ b)
+AllListed k (i ∷ live) sources =
+    (a : List Source) × (b : List Source) × Listed k false i.0 a × AllListed k live b × (sources ≡ a ++ b)
 
 -- The sources in the tree of an index that stand before one of them
 pub data ListedUpTo (k : Known) (next : Source) : Bool → ℕ → List Source → Type 0 where
-  Own : (of_parts : Bool) (i : ℕ) (done : List Source) → next ≡ (of_parts, i) → Listed k of_parts i (done ++ (of_parts, i) ∷ []) → ListedUpTo k next of_parts i done
-  Inside : (of_parts : Bool) (i kind : ℕ) (ws : List ℕ) (parts : ℕ → List Source) (n : ℕ) (b : Bool) (done : List Source) → words_at k (index_of i) ≡ Some (kind ∷ ws)
+  Own : (of_parts : Bool) (i : ℕ) (done : List Source) → next ≡ (of_parts, i)
+      → Listed k of_parts i (done ++ (of_parts, i) ∷ []) → ListedUpTo k next of_parts i done
+  Inside : (of_parts : Bool) (i kind : ℕ) (ws : List ℕ) (parts : ℕ → List Source) (n : ℕ) (b : Bool) (done : List Source)
+      → words_at k (index_of i) ≡ Some (kind ∷ ws)
       → ((p : ℕ) (c : Bool) → p < n → IsIndex of_parts (role_at kind of_parts p) c → Listed k c (slice_index ws p) (parts p))
       → ((p : ℕ) → p < n → role_at kind of_parts p ≡ role.Number → parts p ≡ [])
-      → n < length ws → IsIndex of_parts (role_at kind of_parts n) b → ListedUpTo k next b (slice_index ws n) done
+      → n < length ws → IsIndex of_parts (role_at kind of_parts n) b
+      → ListedUpTo k next b (slice_index ws n) done
       → ListedUpTo k next of_parts i (joined parts n ++ done)
 
 -- the same of the trees of the live indices, one behind the other
 abbrev pub AllListedUpTo : Known → Source → List Index → List Source → Type 0
 AllListedUpTo k next [] done = ⊥
-AllListedUpTo k next (i ∷ live) done = ListedUpTo k next false i.0 done ⊎ ((a : List Source) × (b : List Source) × Listed k false i.0 a × AllListedUpTo k next live b × (done ≡ a ++ b))
+AllListedUpTo k next (i ∷ live) done =
+    ListedUpTo k next false i.0 done
+    ⊎ ((a : List Source) × (b : List Source) × Listed k false i.0 a × AllListedUpTo k next live b × (done ≡ a ++ b))
 
 -- the number stands in the list
 abbrev pub is_among : List ℕ → ℕ → Bool
@@ -80,12 +87,14 @@ pub record IsNewRow (k l : Known) (moved : Pairs) (source : Source) (place : ℕ
 
 abbrev pub AreNewRows : Known → Known → Pairs → List Source → List ℕ → Type 0
 AreNewRows k l moved [] [] = Unit {0}
-AreNewRows k l moved (source ∷ sources) (place ∷ more) = IsNewRow k l moved source place × AreNewRows k l moved sources more
+AreNewRows k l moved (source ∷ sources) (place ∷ more) =
+    IsNewRow k l moved source place × AreNewRows k l moved sources more
 AreNewRows k l moved _ _ = ⊥
 
 -- Sources that were moved one after the other: behind the rows that were there stand their new rows,
 -- each once, and behind the pairs those of the indices that have one, each once
-pub record Adds (k : Known) (rows_before pairs_before : List ℕ) (p : Rows) (moved : Pairs) (sources : List Source) : Type 0 where
+pub record Adds (k : Known) (rows_before pairs_before : List ℕ) (p : Rows) (moved : Pairs)
+    (sources : List Source) : Type 0 where
   pub new_places : List ℕ
   pub are : AreNewRows k (known p) moved sources new_places
   pub rows : places p ≡ adding rows_before new_places
