@@ -6,3 +6,4 @@ pub mod GroupRuns
 pub mod ClaimCounts
 pub mod NamedLogs
 pub mod Pointers
+pub mod ExampleLog

@@ -4,3 +4,4 @@ pub mod Groups
 pub mod Claims
 pub mod Renaming
 pub mod Cycles
+pub mod Example

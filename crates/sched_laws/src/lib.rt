@@ -12,6 +12,7 @@ ghost use Rattle.sched_laws.specs.Laws.{EveryMoment, LastMoment, KeptAgain, Clea
 ghost use Rattle.sched_laws.specs.Claims.{ClaimsFew};
 ghost use Rattle.sched_laws.specs.Renaming.{Renaming};
 ghost use Rattle.sched_laws.specs.Cycles.{CyclesShowOnce, CyclesAreShown, StuckLeadIntoCycles};
+ghost use Rattle.sched_laws.specs.Example.{ExampleHolds};
 ghost use Rattle.sched_laws.specs.Groups.{WholeRuns, PartsMeet, PartsNeed, RunsLast};
 
 /// Every schedule ends in the results by rounds, the demanded units and the stuck ones.
@@ -56,4 +57,9 @@ pub fn stuck_units_lead_into_cycles<Question, Answer, Unit, Outcome>()
     ensures once { CyclesShowOnce Question Answer Unit Outcome }
     ensures shown { CyclesAreShown Question Answer Unit Outcome }
     ensures lead { StuckLeadIntoCycles Question Answer Unit Outcome }
+{}
+
+/// There are honest logs that come to rest: one of two workers, with results and a cycle.
+pub fn an_example_holds()
+    ensures { ExampleHolds }
 {}
