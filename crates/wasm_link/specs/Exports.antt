@@ -12,22 +12,25 @@ memory_name = codes "memory"
 -- a function's export, where it has one
 abbrev pub function_export : ℕ → Option (List ℕ) → List NamedExport
 function_export number None = []
-function_export number (Some name) = record { name = name; function = number % 2 ^ 32 } ∷ []
+function_export number (Some name) = record { name = name; function = number } ∷ []
 
 -- the exports of functions, the first with this number
 abbrev pub exports_from : ℕ → List Function → List NamedExport
 exports_from number [] = []
-exports_from number (f ∷ functions) = function_export number f.export ++ exports_from (suc number) functions
+exports_from number (f ∷ functions) = function_export (number % 2 ^ 32) f.export ++ exports_from (suc number) functions
 
 abbrev pub begins_with : List ℕ → List NamedExport → Bool
 begins_with name [] = false
 begins_with name (e ∷ exports) = bytes_eq e.name name
 
+abbrev pub is_memory : List ℕ → Bool
+is_memory name = bytes_eq name memory_name
+
 -- The first name of sorted exports that stands twice, where the memory's name stands once before them.
 abbrev pub double_name : List NamedExport → Option (List ℕ)
 double_name [] = None
 double_name (e ∷ exports) =
-    if bytes_eq e.name memory_name || begins_with e.name exports then Some e.name else double_name exports
+    if is_memory e.name || begins_with e.name exports then Some e.name else double_name exports
 
 abbrev pub has_name : List ℕ → Option (List ℕ) → Bool
 has_name name None = false

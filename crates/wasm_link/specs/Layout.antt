@@ -14,6 +14,10 @@ data_start = 1048576
 abbrev pub most_data : ℕ
 most_data = 67108864
 
+-- where data ends at most
+abbrev pub data_limit : ℕ
+data_limit = data_start + most_data
+
 abbrev pub alignment_bytes : Alignment → ℕ
 alignment_bytes One = 1
 alignment_bytes Two = 2

@@ -2,6 +2,7 @@ pub mod Order
 pub mod Names
 pub mod NameTable
 pub mod Layout
+pub mod Laid
 pub mod Operands
 pub mod Imports
 pub mod Exports

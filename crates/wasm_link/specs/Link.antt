@@ -24,7 +24,7 @@ use Rattle.wasm_link.specs.declared.named.NamedExport.{NamedExport}
 use Rattle.wasm_link.specs.declared.operands.Targets.{Targets}
 use Rattle.wasm_link.specs.Exports.{double_name, exports_from, memory_name, places_of}
 use Rattle.wasm_link.specs.Imports.{imported}
-use Rattle.wasm_link.specs.Layout.{data_start, item_starts, items_end, most_data, pages_to}
+use Rattle.wasm_link.specs.Layout.{data_start, data_limit, item_starts, items_end, pages_to}
 use Rattle.wasm_link.specs.Names.{distinct_by, number_of}
 use Rattle.wasm_link.specs.Operands.{data_bytes, linked_body}
 use Rattle.wasm_link.specs.Order.{export_cmp, function_cmp, function_spellings, in_order, item_cmp, item_spellings}
@@ -37,10 +37,11 @@ kinds_of imports functions = map (λ (e : ExternFunction). e.kind) imports ++ ma
 abbrev pub types_of : List FnType → List FnType
 types_of kinds = distinct_by fn_type_bytes kinds
 
-abbrev pub type_index : List FnType → FnType → TypeIndex
-type_index types kind = record { 0 = number_of (map fn_type_bytes types) (fn_type_bytes kind) % 2 ^ 32 }
+-- the place of a type among the bytes of types
+abbrev pub type_index : List (List ℕ) → FnType → TypeIndex
+type_index types kind = record { 0 = number_of types (fn_type_bytes kind) % 2 ^ 32 }
 
-abbrev pub import_of : List FnType → ExternFunction → Import
+abbrev pub import_of : List (List ℕ) → ExternFunction → Import
 import_of types e = record { module_name = e.module_name; name = e.name; kind = type_index types e.kind }
 
 abbrev pub is_kind : ValType → ValType → Bool
@@ -79,13 +80,16 @@ abbrev pub segments_of : List ℕ → List Segment
 segments_of [] = []
 segments_of (b ∷ bs) = record { place = pos data_start; bytes = b ∷ bs } ∷ []
 
+abbrev pub item_addresses : List Item → List ℕ
+item_addresses items = item_starts data_start items
+
 -- what operands name: imports, functions and items in their order
 abbrev pub targets_of : List ExternFunction → List Function → List Item → List (List ℕ) → Targets
 targets_of imports functions items errors = record {
   imports = map (λ (e : ExternFunction). e.spelling) imports;
   functions = function_spellings functions;
   items = item_spellings items;
-  addresses = item_starts data_start items;
+  addresses = item_addresses items;
   errors = errors;
 }
 
@@ -97,11 +101,12 @@ sorted_exports imports functions = in_order export_cmp (exports_from imports fun
 abbrev pub module_of : List ExternFunction → List Function → List Item → List (List ℕ) → Module
 module_of imports functions items errors =
     let types = types_of (kinds_of imports functions) in
+    let bytes = map fn_type_bytes types in
     let targets = targets_of imports functions items errors in
     record {
       types = types;
-      imports = map (import_of types) imports;
-      functions = map (λ (f : Function). type_index types f.code.kind) functions;
+      imports = map (import_of bytes) imports;
+      functions = map (λ (f : Function). type_index bytes f.code.kind) functions;
       memories = record { min_pages = pages_to (items_end data_start items) } ∷ [];
       globals = stack_pointer ∷ [];
       exports = exports_of (sorted_exports (length imports) functions);
@@ -118,16 +123,16 @@ abbrev pub most_module : ℕ
 most_module = 268435456
 
 -- the bytes of a module, unless it is too large
-abbrev pub encoded : List (List ℕ) → List ℕ → Result (List ℕ) LinkFault
+abbrev pub encoded : ℕ → List ℕ → Result (List ℕ) LinkFault
 encoded errors bytes =
-    if nat_lt most_errors (length errors) || nat_lt most_module (length bytes) then Err ModuleTooLarge else Ok bytes
+    if nat_lt most_errors errors || nat_lt most_module (length bytes) then Err ModuleTooLarge else Ok bytes
 
 -- functions and items in their order, whose exports have this double name if any
 abbrev pub link_named : Option (List ℕ) → List Function → List Item → List (List ℕ) → Result (List ℕ) LinkFault
 link_named (Some name) functions items errors = Err (DuplicateExport name (places_of name functions))
 link_named None functions items errors =
-    if nat_lt (data_start + most_data) (items_end data_start items) then Err DataTooLarge
-    else encoded errors (module_bytes (module_of (imported functions) functions items errors))
+    if nat_lt data_limit (items_end data_start items) then Err DataTooLarge
+    else encoded (length errors) (module_bytes (module_of (imported functions) functions items errors))
 
 -- functions and items in their order
 abbrev pub link_sorted : List Function → List Item → List (List ℕ) → Result (List ℕ) LinkFault

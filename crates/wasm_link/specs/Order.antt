@@ -45,3 +45,6 @@ function_spellings functions = map (λ (f : Function). f.spelling) functions
 
 abbrev pub item_spellings : List Item → List (List ℕ)
 item_spellings items = map (λ (i : Item). i.spelling) items
+
+abbrev pub extern_spellings : List ExternFunction → List (List ℕ)
+extern_spellings externs = map (λ (e : ExternFunction). e.spelling) externs

@@ -7,10 +7,21 @@
 //! `wasm_form` (code before linking, modules and their encoding).
 #![tactic(auto)]
 
+mod bytes;
+mod code;
+mod distinct;
+mod exports;
 mod fault;
+mod imports;
+mod layout;
+mod linking;
 mod named;
 mod names;
 mod operands;
+mod order;
+mod spelled;
+mod types;
 
 pub use fault::LinkFault;
+pub use linking::link;
 pub use named::{Function, Item, Place};

@@ -47,7 +47,7 @@ impl Targets {
 }
 
 /// The low 32 bits of a sum.
-fn low_sum(a: usize, b: usize) -> u32
+pub fn low_sum(a: usize, b: usize) -> u32
     ensures { result ≡ (a + b) % 2 ^ 32 }
 {
     ((a as u128 + b as u128) % (1 << 32)) as u32

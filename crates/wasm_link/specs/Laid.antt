@@ -1,0 +1,11 @@
+-- What contracts say of a layout.
+use Rattle.std.specs.Prelude.{◌≡◌, ◌≤◌, ℕ, List}
+use Rattle.wasm_link.specs.declared.layout.Layout.{Layout}
+use Rattle.wasm_link.specs.declared.named.Item.{Item}
+use Rattle.wasm_link.specs.Layout.{data_limit, data_start, item_starts, items_end}
+
+-- it has the addresses of the items and their end, which is within the limit
+pub record IsLayout (items : List Item) (laid : Layout) : Type 0 where
+  pub addresses : laid.addresses.items ≡ item_starts data_start items
+  pub end : laid.end ≡ items_end data_start items
+  pub within : laid.end ≤ data_limit
