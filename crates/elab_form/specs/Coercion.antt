@@ -4,7 +4,7 @@
 --     a value of the type itself
 --     undefined                         any type
 --     a known integer, of any type      an integer type that holds it
-use Rattle.std.specs.Prelude.{ℕ, ℤ, pos, neg_ℤ, ◌^◌, ◌-◌, Bool, false, ◌&&◌, nat_le, int_le, if◌then◌else◌, Option, Some, None}
+use Rattle.std.specs.Prelude.{ℕ, ℤ, pos, neg_ℤ, ◌^◌, ◌-◌, Bool, true, false, ◌&&◌, nat_le, int_le, if◌then◌else◌, Option, Some, None}
 use Rattle.zw_base.specs.declared.diag.DiagCode.TheVariants as code
 use Rattle.type_form.specs.declared.tree.Ty.{Ty, out-Ty}
 use Rattle.type_form.specs.declared.tree.Ty.TheVariants as ty
@@ -34,6 +34,8 @@ type_in (layer.Tagged t name v) = Some t
 type_in (layer.OfType t) = Some (ty.Simple simple.Metatype)
 type_in (layer.Address t d) = Some t
 type_in (layer.Constant t v) = Some t
+type_in (layer.Place t n) = Some t
+type_in (layer.Part t whole part count) = Some t
 type_in (layer.Value::Slice t p low high) = Some t
 type_in _ = None
 
@@ -51,9 +53,13 @@ signed_range bits = record { least = neg_ℤ (pos (2 ^ (bits - 1))); greatest = 
 abbrev pub unsigned_range : ℕ → Range
 unsigned_range bits = record { least = pos 0; greatest = pos (2 ^ bits - 1) }
 
+-- the widths of integer types
+abbrev pub is_width : ℕ → Bool
+is_width bits = nat_le 1 bits && nat_le bits 64
+
 abbrev pub sized_range : Bool → ℕ → Option Range
 sized_range is_signed bits =
-    if nat_le 1 bits && nat_le bits 64 then Some (if is_signed then signed_range bits else unsigned_range bits) else None
+    if is_width bits then Some (if is_signed then signed_range bits else unsigned_range bits) else None
 
 abbrev pub range_in : TyLayer → Option Range
 range_in (layer.Ty::Int is_signed bits) = sized_range is_signed bits
@@ -98,8 +104,13 @@ fit t v = if is_type t (type_of v) then fits v else other_fit t (out-Value v)
 
 -- ---- expressions
 
-abbrev pub is_noreturn : Ty → Bool
-is_noreturn t = same_ty t (ty.Simple simple.Noreturn)
+abbrev pub is_noreturn_in : TyLayer → Bool
+is_noreturn_in (layer.Ty::Simple simple.Noreturn) = true
+is_noreturn_in _ = false
+
+-- the type of what never ends
+unfoldable pub is_noreturn : Ty → Bool
+is_noreturn t = is_noreturn_in (out-Ty t)
 
 abbrev pub fit_at : Frame → (place : ℕ) → Fit → Elab Operand
 fit_at f place (fits v) = pure (known v)
@@ -116,5 +127,5 @@ fitted f place None o = pure o
 fitted f place (Some t) o = fitted_to f place t o
 
 -- an expression at a place with its result type, where it has one
-abbrev pub fitting : Frame → (place : ℕ) → Option Ty → Elab Operand → Elab Operand
+unfoldable pub fitting : Frame → (place : ℕ) → Option Ty → Elab Operand → Elab Operand
 fitting f place want m = seq m (fitted f place want)

@@ -1,5 +1,5 @@
 -- Blocks, and what leaves a function (Zig Language Reference 0.14, "Blocks", "Functions").
-use Rattle.std.specs.Prelude.{ℕ, Bool, false, List, [], ◌∷◌, ◌++◌, Option, Some, None, if◌then◌else◌}
+use Rattle.std.specs.Prelude.{ℕ, Bool, true, false, List, [], ◌∷◌, ◌++◌, Option, Some, None, if◌then◌else◌}
 use Rattle.zir_form.specs.Core.{Core, Cores}
 use Rattle.zir_form.specs.Core as core
 use Rattle.type_form.specs.declared.tree.Ty.{Ty, out-Ty}
@@ -13,9 +13,10 @@ use Rattle.type_form.specs.declared.tree.SimpleValue.TheVariants as word
 use Rattle.type_form.specs.Tree.{TyLayer}
 use Rattle.air_form.specs.Typed.{Statement, Scalar, Scalars, statements_of}
 use Rattle.air_form.specs.Typed as typed
-use Rattle.air_form.specs.Denote.{scalar_air, as_scalar}
+use Rattle.air_form.specs.Denote.{scalar_air}
 use Rattle.elab_form.specs.State.{Frame, Operand, known, run}
 use Rattle.elab_form.specs.Asking.{returns, Elab, pure, seq, not_built, acts}
+use Rattle.elab_form.specs.Places.{is_absent}
 use Rattle.elab_form.specs.Coercion.{is_noreturn}
 use Rattle.question_runs.specs.Programs.{done}
 
@@ -50,7 +51,7 @@ holding t = holding_in (out-Ty t)
 -- ---- statements of the body
 
 -- a value behind the statements that belong to it
-abbrev pub behind : List Statement → Scalar → Scalar
+unfoldable pub behind : List Statement → Scalar → Scalar
 behind [] e = e
 behind (s ∷ more) e = typed.sequence (statements_of (s ∷ more)) e
 
@@ -63,31 +64,33 @@ abbrev pub void_value : Value
 void_value = value.Simple (ty.Simple simple.Void) word.Void
 
 -- these statements, the last of which never ends
-abbrev pub acts_for_good : List Statement → Elab Operand
+unfoldable pub acts_for_good : List Statement → Elab Operand
 acts_for_good statements = seq (acts statements) (λ _. pure never)
 
 -- ---- return
 
 -- the value of a function's result goes out by how a body holds it
-abbrev pub return_held : Frame → (place : ℕ) → List Statement → Scalar → Holding → Elab Operand
+unfoldable pub return_held : Frame → (place : ℕ) → List Statement → Scalar → Holding → Elab Operand
 return_held f place statements e scalar = acts_for_good (typed.return_value (behind statements e) ∷ [])
 return_held f place statements e nothing = acts_for_good (statements ++ typed.return ∷ [])
 return_held f place statements e later = not_built f place
 
-abbrev pub holding_of : Option Ty → Holding
+unfoldable pub holding_of : Option Ty → Holding
 holding_of None = later
 holding_of (Some t) = holding t
 
 -- `return` in a typed body, with the statements that belong to the value; behind a value that never ends it is not reached
-abbrev pub return_run : Frame → (place : ℕ) → List Statement × Operand → Elab Operand
+unfoldable pub return_run : Frame → (place : ℕ) → List Statement × Operand → Elab Operand
 return_run f place (statements, known v) = return_held f place statements (typed.constant v) (holding_of f.result)
-return_run f place (statements, run t e) =
-    if is_noreturn t then acts_for_good statements else return_held f place statements (as_scalar e) (holding_of f.result)
+return_run f place (statements, run t e) = if is_noreturn t then acts_for_good statements else not_built f place
+
+-- at comptime `return` leaves what is around it
+unfoldable pub leaves_with : Operand → Elab Operand
+leaves_with o st = done (returns st o)
 
 -- `return` leaves the function with a value of its result type
-abbrev pub return_with : Frame → (place : ℕ) → List Statement × Operand → Elab Operand
-return_with f place (statements, o) =
-    if f.is_comptime then (λ st. done (returns st o)) else return_run f place (statements, o)
+unfoldable pub return_with : Frame → (place : ℕ) → List Statement × Operand → Elab Operand
+return_with f place (statements, o) = if f.is_comptime then leaves_with o else return_run f place (statements, o)
 
 -- ---- blocks
 
@@ -97,18 +100,20 @@ is_never (known v) = false
 is_never (run t e) = is_noreturn t
 
 -- statements behind one: they are dropped where it never ends
-abbrev pub behind_statement : Elab Operand → Operand → Elab Operand
+unfoldable pub behind_statement : Elab Operand → Operand → Elab Operand
 behind_statement rest o = if is_never o then pure o else rest
 
--- What runs as a block or a function is left. It has no rule yet.
-abbrev pub leaving : {A : Type 0} → Frame → (place : ℕ) → Core → Elab A → Elab A
-leaving f place core.absent m = m
-leaving f place _ m = not_built f place
+-- What runs as a block or a function is left has no rule yet.
+unfoldable pub leaving : {A : Type 0} → Frame → (place : ℕ) → Core → Elab A → Elab A
+leaving f place leaves m = if is_absent leaves then m else not_built f place
 
-abbrev pub leaving_all : {A : Type 0} → Frame → (place : ℕ) → Cores → Elab A → Elab A
-leaving_all f place core.none m = m
-leaving_all f place _ m = not_built f place
+abbrev pub is_none : Cores → Bool
+is_none core.none = true
+is_none (core.more c rest) = false
+
+unfoldable pub leaving_all : {A : Type 0} → Frame → (place : ℕ) → Cores → Elab A → Elab A
+leaving_all f place leaves m = if is_none leaves then m else not_built f place
 
 -- the end of a block's statements: where it is reached, what runs as the block is left, and the value of `void`
-abbrev pub block_end : Frame → (place : ℕ) → Core → Operand → Elab Operand
+unfoldable pub block_end : Frame → (place : ℕ) → Core → Operand → Elab Operand
 block_end f place leaves o = if is_never o then pure o else leaving f place leaves (pure (known void_value))

@@ -19,8 +19,8 @@ FormOf = Frame → Option Ty → Core → Elab Operand
 -- called at comptime, where so deep a call may stand.
 abbrev mutual
   pub form : Option FormOf → FormOf
-  form inner f want (core.integer place n) = integer_form n
-  form inner f want (core.primitive place p) = primitive_form p
+  form inner f want (core.integer place n) = integer_form f place n
+  form inner f want (core.primitive place p) = primitive_form f place p
   form inner f want (core.declared place depth name) = declared_form f place depth name
   -- parentheses: the same expression, begun earlier
   form inner f want (core.grouped place c) = form inner f want c

@@ -1,6 +1,6 @@
 -- Names: primitive types and values, and declarations (Zig Language Reference 0.14, "Primitive Types", "Primitive
 -- Values", "Container Level Variables").
-use Rattle.std.specs.Prelude.{ℕ, zero, List, true, false}
+use Rattle.std.specs.Prelude.{ℕ, ◌==◌, Bool, true, false, ◌&&◌, if◌then◌else◌, List, Option, Some, None}
 use Rattle.zir_form.specs.declared.primitive.Primitive.{Primitive}
 use Rattle.zir_form.specs.declared.primitive.Primitive.TheVariants as primitive
 use Rattle.type_form.specs.declared.tree.Ty.{Ty, out-Ty}
@@ -16,6 +16,7 @@ use Rattle.type_form.specs.declared.unit.Unit.TheVariants as unit
 use Rattle.type_form.specs.Tree.{TyLayer}
 use Rattle.elab_form.specs.Questions.{Answer, given, constant, result}
 use Rattle.elab_form.specs.State.{Frame, Operand, known}
+use Rattle.elab_form.specs.Coercion.{is_width}
 use Rattle.elab_form.specs.Asking.{Elab, pure, asking, not_built}
 
 -- ---- primitives
@@ -39,26 +40,36 @@ primitive_value primitive.False = value.Simple (ty.Simple simple.Bool) word.Fals
 primitive_value primitive.Null = value.Simple (ty.Simple simple.NullLiteral) word.Null
 primitive_value primitive.Undefined = value.Simple (ty.Simple simple.UndefinedLiteral) word.Undefined
 
--- a primitive type or value asks nothing
-abbrev pub primitive_form : Primitive → Elab Operand
-primitive_form p = pure (known (primitive_value p))
+abbrev pub has_width : Primitive → Bool
+has_width (primitive.Unsigned bits) = is_width bits
+has_width (primitive.Signed bits) = is_width bits
+has_width _ = true
+
+-- a primitive type or value asks nothing; no name is that of another width
+abbrev pub primitive_form : Frame → (place : ℕ) → Primitive → Elab Operand
+primitive_form f place p = if has_width p then pure (known (primitive_value p)) else not_built f place
 
 -- ---- declarations
 
--- what the declaration's result gives: the value of a constant or a function
-abbrev pub declared_value : Frame → (place : ℕ) → Answer → Elab Operand
-declared_value f place (given (constant v)) = pure (known v)
-declared_value f place _ = not_built f place
+-- the value of a constant or a function, where the answer gives one
+abbrev pub constant_in : Answer → Option Value
+constant_in (given (constant v)) = Some v
+constant_in _ = None
+
+abbrev pub declared_value : Frame → (place : ℕ) → Option Value → Elab Operand
+declared_value f place (Some v) = pure (known v)
+declared_value f place None = not_built f place
 
 -- a name of a declaration in a container asks for the declaration's result
 abbrev pub declared_in : Frame → (place : ℕ) → Ty → List ℕ → Elab Operand
-declared_in f place container name = asking (result (unit.Decl (path.Named container name))) (declared_value f place)
+declared_in f place container name = asking (result (unit.Decl (path.Named container name))) (λ a. declared_value f place (constant_in a))
 
--- The file that the part lies in is the container of depth 0. Parts of other containers have no rule yet.
-abbrev pub declared_at : Frame → (place : ℕ) → (depth : ℕ) → List ℕ → TyLayer → Elab Operand
-declared_at f place zero name (layer.File p) = declared_in f place f.container name
-declared_at f place _ name _ = not_built f place
+abbrev pub is_file : TyLayer → Bool
+is_file (layer.File file) = true
+is_file _ = false
 
--- a name of a declaration of a container around the part, by the container's depth
+-- A name of a declaration of a container around the part, by the container's depth. The file is the container of
+-- depth 0; parts of other containers have no rule yet.
 abbrev pub declared_form : Frame → (place : ℕ) → (depth : ℕ) → List ℕ → Elab Operand
-declared_form f place depth name = declared_at f place depth name (out-Ty f.container)
+declared_form f place depth name =
+    if (depth == 0) && is_file (out-Ty f.container) then declared_in f place f.container name else not_built f place

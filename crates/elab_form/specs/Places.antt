@@ -1,5 +1,5 @@
 -- Where a diagnostic of a form stands: at its first token, in bytes from the first token of the part.
-use Rattle.std.specs.Prelude.{ℕ}
+use Rattle.std.specs.Prelude.{ℕ, Bool, true, false, if◌then◌else◌}
 use Rattle.zir_form.specs.Core.{Core}
 use Rattle.zir_form.specs.Core as core
 
@@ -67,7 +67,10 @@ place_of (core.union place _ _) = place
 place_of (core.field name_place _ _ _) = name_place
 place_of _ = 0
 
+abbrev pub is_absent : Core → Bool
+is_absent core.absent = true
+is_absent _ = false
+
 -- the place of a value that may be left out, as behind `return`: then it is that of the form which lacks it
 abbrev pub value_place : (place : ℕ) → Core → ℕ
-value_place place core.absent = place
-value_place place c = place_of c
+value_place place c = if is_absent c then place else place_of c

@@ -24,7 +24,7 @@ use Rattle.question_runs.specs.Programs.{Prog, done, bind}
 use Rattle.elab_form.specs.Questions.{TextPart, head, whole, Question, Answer, tree, text, UnitValue, constant, body, UnitResult, good, failed, named}
 use Rattle.elab_form.specs.State.{Frame, Operand, known, run, start}
 use Rattle.elab_form.specs.Asking.{Out, gives, returns, breaks, continues, wrong_by, Elab, pure, seq, asking, referring, wrong, not_built, acts, evaluated}
-use Rattle.elab_form.specs.Places.{place_of}
+use Rattle.elab_form.specs.Places.{place_of, is_absent}
 use Rattle.elab_form.specs.Control.{is_never}
 use Rattle.elab_form.specs.Elab.{expression}
 
@@ -77,8 +77,7 @@ no_text f = not_built f 0
 
 -- the value of a constant, with the declared type as its result type; a type that is left out is none
 abbrev pub initial_value : Frame → Core → Core → Elab Value
-initial_value f core.absent c = value_form f None c
-initial_value f t c = seq (type_form f t) (λ s. value_form f (Some s) c)
+initial_value f t c = if is_absent t then value_form f None c else seq (type_form f t) (λ s. value_form f (Some s) c)
 
 abbrev pub constant_form : Frame → Core → Core → Elab UnitValue
 constant_form f t c = seq (initial_value f t c) (λ v. pure (constant v))
