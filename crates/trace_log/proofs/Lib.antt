@@ -4,3 +4,4 @@ pub mod Sameness
 pub mod TraceLemmas
 pub mod Growing
 pub mod NameLemmas
+pub mod IndexLemmas
