@@ -5,3 +5,4 @@ pub mod TraceLemmas
 pub mod Growing
 pub mod NameLemmas
 pub mod IndexLemmas
+pub mod SnapshotLemmas
