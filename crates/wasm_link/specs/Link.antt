@@ -127,9 +127,13 @@ abbrev pub encoded : ℕ → List ℕ → Result (List ℕ) LinkFault
 encoded errors bytes =
     if nat_lt most_errors errors || nat_lt most_module (length bytes) then Err ModuleTooLarge else Ok bytes
 
+-- the refusal of a name under which two things are exported
+abbrev pub doubled : List ℕ → List Function → Result (List ℕ) LinkFault
+doubled name functions = Err (DuplicateExport name (places_of name functions))
+
 -- functions and items in their order, whose exports have this double name if any
 abbrev pub link_named : Option (List ℕ) → List Function → List Item → List (List ℕ) → Result (List ℕ) LinkFault
-link_named (Some name) functions items errors = Err (DuplicateExport name (places_of name functions))
+link_named (Some name) functions items errors = doubled name functions
 link_named None functions items errors =
     if nat_lt data_limit (items_end data_start items) then Err DataTooLarge
     else encoded (length errors) (module_bytes (module_of (imported functions) functions items errors))

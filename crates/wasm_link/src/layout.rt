@@ -1,8 +1,7 @@
 // Where data items lie in memory.
-ghost use Rattle.std.specs.Prelude.{◌≡◌, ◌+◌, ◌<◌, ◌≤◌, IfOk, MatchOption};
+ghost use Rattle.std.specs.Prelude.{◌≡◌, ◌+◌, ◌<◌, ◌≤◌, IfOk};
 ghost use Rattle.wasm_link.specs.Layout.{alignment_bytes, data_limit, data_start, item_alignment, item_len, item_start, padding};
-ghost use Rattle.wasm_link.specs.Laid.{IsLayout};
-ghost use Rattle.wasm_link.specs.Layout as spec;
+ghost use Rattle.wasm_link.specs.Laid.{EndsAt, LaysOut};
 
 use crate::named::Item;
 use std::alloc::{AllocError, Global};
@@ -71,7 +70,7 @@ fn item_start(address: u32, item: &DataItem) -> u32
 fn item_end(start: u32, item: &DataItem) -> Option<u32>
     requires low { data_start ≤ start }
     requires high { start < data_limit + 8 }
-    ensures { MatchOption result (data_limit < start + item_len item.now) (λ end. (end ≡ start + item_len item.now) × (end ≤ data_limit)) }
+    ensures { EndsAt start (item_len item.now) result }
 {
     match item {
         DataItem::Bytes {
@@ -85,7 +84,7 @@ fn item_end(start: u32, item: &DataItem) -> Option<u32>
 
 /// The end of so many bytes, unless it is beyond the limit.
 fn end_of(start: u32, len: usize) -> Option<u32>
-    ensures { MatchOption result (data_limit < start + len) (λ end. (end ≡ start + len) × (end ≤ data_limit)) }
+    ensures { EndsAt start len result }
 {
     if start <= DATA_LIMIT && len <= (DATA_LIMIT - start) as usize {
         Some(start + len as u32)
@@ -96,7 +95,7 @@ fn end_of(start: u32, len: usize) -> Option<u32>
 
 /// Where items lie, unless they end beyond the limit.
 pub fn laid_out(alloc: Global, items: &[Item]) -> Result<Option<Layout>, AllocError>
-    ensures { IfOk result (λ laid. MatchOption laid (data_limit < spec.items_end data_start items.now) (IsLayout items.now)) }
+    ensures { IfOk result (LaysOut items.now) }
 {
     let mut addresses = Vec::new(alloc);
     let mut end = DATA_START;

@@ -1,8 +1,8 @@
 //! Linking: one module from functions, data and error names.
 //!
 //! The model: functions and data items stand in the module in the order of their spellings, so that
-//! the order in which they were worked out changes no byte. The definition `linked` is a function of
-//! lists; its operands are filled in by name, and no table of the code stands in it.
+//! the order in which they were worked out changes no byte. The definition `linked` is a function
+//! of lists; operands are filled in by name, and no table of the code stands in it.
 //! Public calls: `link`. The crate stands on `zw_base` (lists, paths), `zw_bytes` (bytes) and
 //! `wasm_form` (code before linking, modules and their encoding).
 #![tactic(auto)]

@@ -3,7 +3,6 @@ ghost use Rattle.std.specs.Prelude.{◌≡◌, ◌∷◌, [], IfOk, length, map}
 ghost use Rattle.std.specs.List.{IsDistinct};
 ghost use Rattle.std.specs.Str.{bytes_eq};
 ghost use Rattle.wasm_form.specs.Binary.{module_bytes};
-ghost use Rattle.wasm_link.specs.Exports.{places_of};
 ghost use Rattle.wasm_link.specs.Imports.{imported};
 ghost use Rattle.wasm_link.specs.Laid.{IsLayout};
 ghost use Rattle.wasm_link.specs.Link as spec;
@@ -14,7 +13,7 @@ use crate::code::codes_of;
 use crate::exports::{MEMORY, double_name, exports_from, places_of};
 use crate::fault::LinkFault;
 use crate::imports::imported;
-use crate::layout::{Layout, laid_out};
+use crate::layout::{DATA_START, Layout, laid_out};
 use crate::named::{Function, Item, NamedExport};
 use crate::names::Names;
 use crate::operands::Targets;
@@ -30,7 +29,7 @@ use zw_base::{Bytes, Seq};
 use zw_bytes::ByteBuf;
 
 /// Where the shadow stack begins: it grows down from where data begins.
-const STACK_START: i32 = 1_048_576;
+const STACK_START: i32 = DATA_START as i32;
 
 /// The bytes of a page.
 const PAGE: u32 = 65_536;
@@ -183,7 +182,7 @@ fn encoded(alloc: Global, module: &Module, errors: usize) -> Result<Bytes, LinkF
     }
 }
 
-/// Links functions and items in their order, with their sorted exports, of which no name stands twice.
+/// Links functions and items in their order, with their sorted exports, whose names differ.
 fn link_named(
     alloc: Global,
     imports: Vec<ExternFunction>,
@@ -207,7 +206,7 @@ fn link_named(
 
 /// The refusal of a name under which two things are exported.
 fn duplicate(alloc: Global, name: Bytes, functions: Vec<Function>) -> LinkFault
-    ensures { spec.Answers (Err result) (Err (LinkFault.DuplicateExport name (places_of name functions.items))) }
+    ensures { spec.Answers (Err result) (spec.doubled name functions.items) }
 {
     match places_of(alloc, &name, functions) {
         Ok(places) => LinkFault::DuplicateExport {
@@ -240,7 +239,7 @@ fn link_sorted(
 /// The bytes of the one module of functions, data items and error names.
 ///
 /// `functions` and `items` may come in any order; `errors` are numbered from 1 in their order. The
-/// refusals are tried in the order of `LinkFault`'s variants. An operand that names what isn't there
+/// refusals are tried in the order of `LinkFault`'s variants. An operand that names what is absent
 /// is filled with some number, and one that stands at no instruction for it is left out.
 pub fn link(
     alloc: Global,

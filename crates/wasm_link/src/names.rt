@@ -1,8 +1,7 @@
 // Names, each found by its number.
-ghost use Rattle.std.specs.Prelude.{◌≡◌, ℕ, List, ◌++◌, ◌∷◌, [], IfOk, Some, length, if◌then◌else◌};
-ghost use Rattle.std.specs.Str.{bytes_eq};
+ghost use Rattle.std.specs.Prelude.{◌≡◌, ◌++◌, ◌∷◌, [], IfOk, OnOk, length};
 ghost use Rattle.wasm_link.specs.Names.{number_of};
-ghost use Rattle.wasm_link.specs.NameTable.{place_in};
+ghost use Rattle.wasm_link.specs.NameTable.{Enters, place_in};
 
 use std::alloc::{AllocError, Global};
 use std::collections::BTreeMap;
@@ -87,7 +86,7 @@ fn enter(
     name: &[u8],
     number: usize,
 ) -> Result<(), AllocError>
-    ensures { IfOk result (λ _. (other : List ℕ) → place_in places.new other ≡ (if bytes_eq name.now other then Some number else place_in places.old other)) }
+    ensures { OnOk result (Enters name.now number places.old places.new) }
 {
     let key = Vec::from_slice(alloc, name)?;
     let _ = places.insert(key, number)?;

@@ -53,8 +53,8 @@ pub fn low_sum(a: usize, b: usize) -> u32
     ((a as u128 + b as u128) % (1 << 32)) as u32
 }
 
-/// An instruction with a number as the operand that linking fills in. One that has no such operand is
-/// left as it is.
+/// An instruction with a number as the operand that linking fills in. One that has no such operand
+/// is left as it is.
 pub fn with_operand(n: u32, instr: Instr) -> Instr
     ensures { result ≡ with_operand n instr }
 {
