@@ -6,12 +6,12 @@ use Rattle.std.proofs.lemmas.Bool.Decides.{nat_tests}
 use Rattle.std.specs.Str.{bytes_eq}
 use Rattle.std.specs.BTreeMap.{BTreeMap, get_by, is_at, IsEmpty, UpdatesBy}
 use Rattle.std.specs.Map.{lookup, KeepsOthers, IsKeyTest, AreApart}
-use Rattle.std.specs.Ordering.{nat_cmp, is_eq, eq_by_cmp}
+use Rattle.std.specs.Ordering.{nat_cmp, is_eq}
 use Rattle.std.specs.Cmp.Lexicographic.{slice_cmp}
 use Rattle.std.proofs.lemmas.Cmp.{nat_list_cmp_total, eq_by_cmp_equiv, nat_list_eq_equiv}
 use Rattle.std.proofs.lemmas.Map.Text.{is_eq-slice_cmp}
 use Rattle.std.specs.declared.alloc.Global.{Global}
-use Rattle.wasm_link.specs.Names.{number_of, stands_in}
+use Rattle.wasm_link.specs.Names.{number_of}
 use Rattle.wasm_link.specs.NameTable.{place_in, AreNumbered}
 
 pub AreNumbered-empty : (places : BTreeMap (Vec ℕ Global) ℕ) → IsEmpty places → AreNumbered places []

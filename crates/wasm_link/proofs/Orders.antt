@@ -1,11 +1,10 @@
 -- The orders in which things stand are total, and how a sort by one of them is the list in order.
-use Rattle.std.proofs.Common.{◌≡◌, ℕ, Bool, true, false, List, [], ◌∷◌, map, refl, sym, ap, ◌∙◌}
+use Rattle.std.proofs.Common.{◌≡◌, ℕ, Bool, List, refl, ap, ◌∙◌}
 use Rattle.std.specs.List.{IsDistinct}
-use Rattle.std.specs.List.Sorted.{IsPermutation, IsSortedBy}
 use Rattle.std.specs.Cmp.{IsTotalOrder, IsStrictWeakOrder}
 use Rattle.std.specs.declared.cmp.Ordering.{Ordering}
 use Rattle.std.specs.declared.cmp.Ordering.TheVariants.{Less, Equal, Greater}
-use Rattle.std.specs.Ordering.{is_lt, nat_cmp, on, then_cmp, ordering_then}
+use Rattle.std.specs.Ordering.{is_lt, nat_cmp, ordering_then}
 use Rattle.std.specs.Str.{bytes_eq}
 use Rattle.std.proofs.lemmas.Cmp.{nat_list_cmp_total, nat_cmp_total, on_total, then_total}
 use Rattle.std.proofs.lemmas.List.Sorted.{ranks_by}
@@ -14,8 +13,8 @@ use Rattle.wasm_form.specs.declared.linked.ExternFunction.{ExternFunction}
 use Rattle.wasm_link.specs.declared.named.Function.{Function}
 use Rattle.wasm_link.specs.declared.named.Item.{Item}
 use Rattle.wasm_link.specs.declared.named.NamedExport.{NamedExport}
-use Rattle.wasm_link.specs.Order.{bytes_cmp, function_cmp, item_cmp, extern_cmp, export_cmp, extern_spellings, in_order}
-use Rattle.wasm_link.proofs.InOrder.{AreTold, told_by_key, sorted_in_order}
+use Rattle.wasm_link.specs.Order.{bytes_cmp, function_cmp, item_cmp, extern_cmp, export_cmp, extern_spellings}
+use Rattle.wasm_link.proofs.InOrder.{AreTold, told_by_key}
 
 pub function_total : IsTotalOrder function_cmp
 function_total = on_total (λ (f : Function). f.spelling) nat_list_cmp_total

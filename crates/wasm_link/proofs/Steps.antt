@@ -1,14 +1,14 @@
 -- A step of a loop over a list.
-use Rattle.std.specs.Prelude.{◌++◌, ◌≤◌, map}
+use Rattle.std.specs.Prelude.{◌++◌, ◌≤◌}
 use Rattle.std.specs.List.{flat_map, fold}
-use Rattle.std.proofs.Common.{refl, append_assoc}
+use Rattle.std.proofs.Common.{refl}
 use Rattle.wasm_link.specs.declared.named.Item.{Item}
 use Rattle.wasm_link.specs.declared.named.Function.{Function}
 use Rattle.wasm_link.specs.Layout.{item_len, item_start, items_end}
 use Rattle.wasm_link.specs.Exports.{has_name, places_of}
 use Rattle.wasm_link.specs.declared.named.Place.{Place}
 use Rattle.std.proofs.Common.{Bool, true, false, if◌then◌else◌}
-use Rattle.std.proofs.Common.{◌≡◌, ℕ, zero, suc, ◌+◌, ◌<◌, List, [], ◌∷◌, length, drop, get_or, sym, ap, ◌∙◌, subst, arith, add-one, drop-cons}
+use Rattle.std.proofs.Common.{◌≡◌, ℕ, suc, ◌+◌, ◌<◌, List, [], ◌∷◌, length, drop, get_or, sym, ap, ◌∙◌, arith, drop-cons}
 use Rattle.std.proofs.lemmas.Grind.{common_steps}
 
 -- what is left begins with the next element

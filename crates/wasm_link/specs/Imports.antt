@@ -1,5 +1,5 @@
 -- The functions of the host's that code calls.
-use Rattle.std.specs.Prelude.{ℕ, List, [], ◌∷◌}
+use Rattle.std.specs.Prelude.{List, [], ◌∷◌}
 use Rattle.std.specs.List.{flat_map, fold}
 use Rattle.wasm_form.specs.declared.linked.ExternFunction.{ExternFunction}
 use Rattle.wasm_form.specs.declared.linked.Reloc.{Reloc}

@@ -1,5 +1,8 @@
 -- Linking: the module of functions, data items and error names, or why there is none.
 use Rattle.std.specs.Prelude.{◌≡◌, ℕ, ◌+◌, ◌%◌, ◌^◌, ◌||◌, pos, nat_lt, if◌then◌else◌, Bool, true, false, List, [], ◌∷◌, ◌++◌, length, map, Option, Some, None, Result, Ok, Err}
+use Rattle.std.specs.List.{IsDistinct}
+use Rattle.std.specs.List.Sorted.{IsPermutation}
+use Rattle.std.specs.Str.{bytes_eq}
 use Rattle.wasm_form.specs.Binary.{fn_type_bytes, module_bytes}
 use Rattle.wasm_form.specs.declared.instr.Instr.TheVariants.{I32Const}
 use Rattle.wasm_form.specs.declared.linked.ExternFunction.{ExternFunction}
@@ -151,3 +154,10 @@ linked functions items errors = link_sorted (in_order function_cmp functions) (i
 abbrev pub Answers : Result (List ℕ) LinkFault → Result (List ℕ) LinkFault → Type 0
 Answers (Err OutOfMemory) answer = Unit {0}
 Answers result answer = result ≡ answer
+
+-- functions and items in another order give the same answer, where their spellings differ
+abbrev pub OrderChangesNothing : Type 0
+OrderChangesNothing =
+    (functions moved : List Function) (items shifted : List Item) (errors : List (List ℕ))
+    → IsDistinct bytes_eq (function_spellings functions) → IsDistinct bytes_eq (item_spellings items)
+    → IsPermutation functions moved → IsPermutation items shifted → linked moved shifted errors ≡ linked functions items errors

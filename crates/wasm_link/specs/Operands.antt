@@ -1,5 +1,5 @@
 -- Operands that are filled in: what they stand for, in code and in data.
-use Rattle.std.specs.Prelude.{ℕ, ◌+◌, ◌%◌, ◌^◌, ◌≤◌, nat_le, if◌then◌else◌, List, [], ◌∷◌, ◌++◌, length, take, drop, Option, Some, None, slice_get, slice_set, slice_index, replicate}
+use Rattle.std.specs.Prelude.{ℕ, ◌+◌, ◌%◌, ◌^◌, nat_le, if◌then◌else◌, List, [], ◌++◌, length, take, drop, Option, Some, None, slice_get, slice_set, slice_index, replicate}
 use Rattle.std.specs.Int.{w16, w32, cast_signed, to_le_bytes}
 use Rattle.std.specs.List.{fold}
 use Rattle.wasm_form.specs.declared.instr.Instr.{Instr}

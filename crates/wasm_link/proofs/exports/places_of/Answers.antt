@@ -1,4 +1,4 @@
-use Rattle.std.proofs.Common.{◌≡◌, ◌++◌, ◌∷◌, [], sym, ap, ◌∙◌}
+use Rattle.std.proofs.Common.{◌++◌, ◌∷◌, [], sym, ap, ◌∙◌}
 use Rattle.wasm_link.proofs.Steps.{places_kept, places_passed}
 use Rattle.wasm_link.proofs.exports.places_of.Goals as goal
 

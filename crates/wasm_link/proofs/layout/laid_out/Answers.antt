@@ -1,5 +1,5 @@
 use Rattle.std.proofs.Common.{◌≡◌, ◌+◌, drop, sym, ap, ◌∙◌, arith}
-use Rattle.wasm_link.specs.Layout.{data_limit, data_start, item_len, item_start, items_end}
+use Rattle.wasm_link.specs.Layout.{data_start, item_len, item_start, items_end}
 use Rattle.wasm_link.proofs.Steps.{next_of, ends_grow}
 use Rattle.wasm_link.proofs.layout.laid_out.Goals as goal
 

@@ -1,6 +1,5 @@
-use Rattle.std.proofs.Common.{◌≡◌, ◌∷◌, [], map, take, ◌++◌}
-use Rattle.wasm_link.specs.declared.named.Function.{Function}
-use Rattle.wasm_link.specs.Link.{import_of, type_index, exports_of}
+use Rattle.std.proofs.Common.{◌≡◌, map}
+use Rattle.wasm_link.specs.Link.{import_of}
 use Rattle.wasm_link.proofs.linking.imports_of.Given as goal
 
 abbrev pub invariant-loop-host : goal.invariant-loop-host

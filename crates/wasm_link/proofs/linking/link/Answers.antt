@@ -1,4 +1,4 @@
-use Rattle.std.proofs.Common.{◌≡◌, subst}
+use Rattle.std.proofs.Common.{subst}
 use Rattle.wasm_link.specs.Link.{Answers, linked, link_sorted}
 use Rattle.wasm_link.specs.Order.{in_order, item_cmp}
 use Rattle.wasm_link.proofs.linking.link.Goals as goal

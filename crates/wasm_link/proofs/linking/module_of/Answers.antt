@@ -1,4 +1,4 @@
-use Rattle.std.proofs.Common.{◌≡◌, ◌∷◌, [], map, sym, ap, ◌∙◌}
+use Rattle.std.proofs.Common.{◌≡◌, ◌∷◌, [], map, ap, ◌∙◌}
 use Rattle.wasm_form.specs.Binary.{fn_type_bytes}
 use Rattle.wasm_form.specs.declared.module.Global.{Global}
 use Rattle.wasm_form.specs.declared.module.Memory.{Memory}

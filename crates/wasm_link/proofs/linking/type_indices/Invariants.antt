@@ -1,6 +1,6 @@
-use Rattle.std.proofs.Common.{◌≡◌, ◌∷◌, [], map, take, ◌++◌}
+use Rattle.std.proofs.Common.{◌≡◌, map, take}
 use Rattle.wasm_link.specs.declared.named.Function.{Function}
-use Rattle.wasm_link.specs.Link.{import_of, type_index, exports_of}
+use Rattle.wasm_link.specs.Link.{type_index}
 use Rattle.wasm_link.proofs.linking.type_indices.Given as goal
 
 abbrev pub invariant-loop-function : goal.invariant-loop-function

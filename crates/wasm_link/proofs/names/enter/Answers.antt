@@ -1,4 +1,3 @@
-use Rattle.std.proofs.Common.{◌≡◌, ◌∙◌, sym}
 use Rattle.wasm_link.proofs.NameLemmas.{place_in-inserted}
 use Rattle.wasm_link.proofs.names.enter.Goals as goal
 

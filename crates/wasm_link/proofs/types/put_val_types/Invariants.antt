@@ -1,6 +1,5 @@
-use Rattle.std.proofs.Common.{◌≡◌, ◌++◌, length, take}
+use Rattle.std.proofs.Common.{◌≡◌, ◌++◌, take}
 use Rattle.std.specs.List.{flat_map}
-use Rattle.zw_bytes.specs.Leb.{unsigned_leb}
 use Rattle.wasm_form.specs.Binary.{val_type_bytes}
 use Rattle.wasm_link.proofs.types.put_val_types.Given as goal
 

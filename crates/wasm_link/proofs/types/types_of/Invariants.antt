@@ -1,4 +1,4 @@
-use Rattle.std.proofs.Common.{◌≡◌, ◌++◌, [], map, take}
+use Rattle.std.proofs.Common.{◌≡◌, [], map, take}
 use Rattle.std.specs.List.{fold}
 use Rattle.wasm_form.specs.Binary.{fn_type_bytes}
 use Rattle.wasm_form.specs.declared.linked.ExternFunction.{ExternFunction}
