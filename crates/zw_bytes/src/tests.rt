@@ -35,18 +35,40 @@ fn writes_known_numbers(rt: HostRuntime) -> Result<(), Fail> {
 }
 
 #[test]
-fn writes_long_and_padded_numbers(rt: HostRuntime) -> Result<(), Fail> {
-    let mut buffer = ByteBuf::with_room(rt.alloc(), 41)?;
-    buffer.put_s64(i64::MIN);
-    buffer.put_s64(i64::MAX);
-    buffer.put_s64(-1);
+fn writes_long_numbers(rt: HostRuntime) -> Result<(), Fail> {
+    let alloc = rt.alloc();
+    for (number, bytes) in [
+        (
+            i64::MIN,
+            b"\x80\x80\x80\x80\x80\x80\x80\x80\x80\x7f".as_slice(),
+        ),
+        (
+            i64::MAX,
+            b"\xff\xff\xff\xff\xff\xff\xff\xff\xff\x00".as_slice(),
+        ),
+        (-1, b"\x7f".as_slice()),
+    ] {
+        let mut buffer = ByteBuf::with_room(alloc, 10)?;
+        buffer.put_s64(number);
+        assert_eq!(rt; buffer.as_slice(), bytes, "at {number}");
+    }
+    Ok(())
+}
+
+#[test]
+fn writes_padded_numbers(rt: HostRuntime) -> Result<(), Fail> {
+    let alloc = rt.alloc();
+    for (number, bytes) in [
+        (-2i32, b"\xfe\xff\xff\xff\x7f".as_slice()),
+        (1_048_576, b"\x80\x80\xc0\x80\x00".as_slice()),
+    ] {
+        let mut buffer = ByteBuf::with_room(alloc, 5)?;
+        buffer.put_s32_padded(number);
+        assert_eq!(rt; buffer.as_slice(), bytes, "at {number}");
+    }
+    let mut buffer = ByteBuf::with_room(alloc, 5)?;
     buffer.put_u32_padded(3);
-    buffer.put_u32_padded(u32::MAX);
-    buffer.put_s32_padded(-2);
-    buffer.put_s32_padded(1_048_576);
-    let wanted: &[u8] =
-        b"\x80\x80\x80\x80\x80\x80\x80\x80\x80\x7f\xff\xff\xff\xff\xff\xff\xff\xff\xff\x00\x7f\x83\x80\x80\x80\x00\xff\xff\xff\xff\x0f\xfe\xff\xff\xff\x7f\x80\x80\xc0\x80\x00";
-    assert_eq!(rt; buffer.as_slice(), wanted);
+    assert_eq!(rt; buffer.as_slice(), b"\x83\x80\x80\x80\x00".as_slice());
     Ok(())
 }
 
