@@ -6,3 +6,4 @@ pub mod Growing
 pub mod NameLemmas
 pub mod IndexLemmas
 pub mod SnapshotLemmas
+pub mod StandLemmas

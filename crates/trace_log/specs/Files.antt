@@ -12,7 +12,7 @@ use Rattle.type_form.specs.declared.tree.Ty.{Ty}
 use Rattle.type_form.specs.declared.tree.DeclPath.{DeclPath, out-DeclPath}
 use Rattle.type_form.specs.declared.tree.Arg.TheOpen.{Arg-F, DeclPath-F, Ty-F, Value-F}
 use Rattle.type_form.specs.declared.tree.Arg.TheOpen as layer
-use Rattle.type_form.specs.declared.tree.Arg.TheFolds.{fold-Ty}
+use Rattle.type_form.specs.declared.tree.Arg.TheFolds.{fold-Ty, fold-DeclPath}
 use Rattle.type_form.specs.Tree.{DeclLayer}
 use Rattle.elab_form.specs.Questions as plain
 
@@ -62,6 +62,10 @@ value_stand v = tt
 -- where a container or a file stands, by its type
 abbrev pub stand_of : Files → Ty → Option Stand
 stand_of files = fold-Ty (Unit {0}) (ℕ → Option Stand) (Option Stand) (Unit {0}) arg_stand (decl_stands files) (ty_stand files) value_stand
+
+-- where the containers of a declaration stand, by their ordinals
+abbrev pub declared_stand : Files → DeclPath → ℕ → Option Stand
+declared_stand files = fold-DeclPath (Unit {0}) (ℕ → Option Stand) (Option Stand) (Unit {0}) arg_stand (decl_stands files) (ty_stand files) value_stand
 
 -- ---- texts, names and exports
 

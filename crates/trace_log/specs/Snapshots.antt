@@ -12,7 +12,8 @@ use Rattle.elab_form.specs.Questions as plain
 use Rattle.trace_log.specs.declared.answers.Answers.{Answers}
 use Rattle.trace_log.specs.declared.question.UnitIndex.{UnitIndex}
 use Rattle.trace_log.specs.declared.result.UnitResult.{UnitResult}
-use Rattle.trace_log.specs.Files.{Files, file_answer}
+use Rattle.trace_log.specs.declared.stands.Place.{Place}
+use Rattle.trace_log.specs.Files.{Files, Stand, file_answer, stand_by}
 use Rattle.trace_log.specs.Indices.{bytes_index, unit_index}
 use Rattle.trace_log.specs.Readings.{IsUnit, IsUnitResult, LinesOf, unit_result_at}
 use Rattle.trace_log.specs.TableStates.{table_get, unit_get}
@@ -50,6 +51,11 @@ files_at k a path = option_map front_in (option_and_then (front_at a) (bytes_ind
 -- the results that are there
 abbrev pub results_at : Known → Answers → AnyUnit → Option plain.UnitResult
 results_at k a u = option_map (unit_result_at k) (option_and_then (result_get a) (unit_index k u))
+
+-- what the place of a container is
+abbrev pub stand_at : Answers → Option Place → Option Stand
+stand_at a None = None
+stand_at a (Some place) = option_map (λ f. stand_by (front_in f) place.container) (front_get a place.front)
 
 -- The answer to a question, if there is one: to one about the files always, to one for a result where that is there.
 unfoldable pub given_at : Known → Answers → plain.Question → Option plain.Answer

@@ -10,6 +10,7 @@ mod names;
 mod question;
 mod result;
 mod shared;
+mod stands;
 mod tables;
 mod trace;
 
