@@ -1,147 +1,119 @@
 -- What a compilation answers: the files as they stand, from the root on.
-use Rattle.std.specs.Prelude.{ℕ, ◌+◌, ◌-◌, ◌*◌, pos, true, if◌then◌else◌, nat_lt, List, [], ◌∷◌, ◌++◌, length, map, codes, slice_get, Option, None, Some, Result, Ok, Err}
-use Rattle.std.specs.Int.{w32, cast_signed}
+use Rattle.std.specs.Prelude.{ℕ, ◌++◌, nat_lt, if◌then◌else◌, List, [], ◌∷◌, length, map, Option, None, Some, option_to_list}
+use Rattle.std.specs.List.{flat_map}
 use Rattle.zw_base.specs.Outside.{file_at}
-use Rattle.zw_base.specs.declared.diag.DiagCode.TheVariants.{NotBuilt, BadByte, BadEscape, OpenString, BadNumber, UnexpectedToken, TooDeep, RootMissing, ModuleTooLarge}
 use Rattle.zw_base.specs.declared.diag.DiagCode.{DiagCode}
+use Rattle.zw_base.specs.declared.diag.DiagCode.TheVariants.{NotBuilt, RootMissing, ModuleTooLarge}
 use Rattle.zw_base.specs.declared.diag.Found.{Found}
+use Rattle.diag_order.specs.declared.line.Diag.{Diag}
 use Rattle.diag_order.specs.declared.line.Line.{Line}
-use Rattle.diag_order.specs.Places.{line_at, col_at}
-use Rattle.zig_tree.specs.declared.token.Token.{Token}
-use Rattle.zig_tree.specs.declared.tree.Node.{Node}
-use Rattle.zig_token.specs.declared.fault.LexFault.{LexFault}
-use Rattle.zig_token.specs.declared.fault.LexFault.TheVariants as lex
-use Rattle.zig_token.specs.Scan.{tokens_of}
-use Rattle.zig_parse.specs.declared.fault.SyntaxFault.{SyntaxFault}
-use Rattle.zig_parse.specs.declared.fault.SyntaxFault.TheVariants as syntax
-use Rattle.zig_parse.specs.Growth.{parse_of}
-use Rattle.wasm_form.specs.declared.module.Module.{Module}
-use Rattle.wasm_form.specs.declared.module.FnType.{FnType}
-use Rattle.wasm_form.specs.declared.module.Global.{Global}
-use Rattle.wasm_form.specs.declared.module.Export.{Export}
-use Rattle.wasm_form.specs.declared.module.Code.{Code}
-use Rattle.wasm_form.specs.declared.module.ValType.TheVariants.{I32}
-use Rattle.wasm_form.specs.declared.instr.Instr.TheVariants.{Return, I32Const}
-use Rattle.wasm_form.specs.declared.module.Exported.TheVariants as exported
+use Rattle.diag_order.specs.Sorted.{text_in, line_of}
+use Rattle.wasm_form.specs.declared.encoder.TheConstants.{MOST_BYTES}
 use Rattle.wasm_form.specs.Binary.{module_bytes}
-use Rattle.zir_astgen.specs.Calls.{builtin_faults}
-use Rattle.zir_scope.specs.Findings.{scope_faults}
+use Rattle.watch_core.specs.declared.form.ConstFunction.{ConstFunction}
+use Rattle.watch_core.specs.Front.{SourceForm, source_of, found_at}
 use Rattle.watch_core.specs.InOrder.{in_order}
-use Rattle.watch_core.specs.Form.{ConstFunction, built_of}
-use Rattle.watch_core.specs.declared.session.Update.{Update}
-use Rattle.watch_core.specs.declared.session.Update.TheVariants as update
+use Rattle.watch_core.specs.Link.{linked}
 
--- the code of a function that gives a constant
-abbrev pub code_of : ConstFunction → Code
-code_of f = record { locals = []; body = I32Const (cast_signed w32 f.value) ∷ Return ∷ [] }
+-- pairs of path and bytes; a path that is not there reads as an empty file, by `text_in`
+abbrev pub Files : Type 0
+Files = List (List ℕ × List ℕ)
 
--- the types of functions that take nothing and give 32 bits
-abbrev pub types_of : List ConstFunction → List FnType
-types_of [] = []
-types_of (f ∷ fs) = record { params = []; result = Some I32 } ∷ []
+-- the paths of the files that the root reaches; imports will add to them
+abbrev pub reach : List ℕ → Files → List (List ℕ)
+reach root files = root ∷ []
 
--- the shadow stack's pointer: it grows down from the end of sixteen pages, where data begins
-abbrev pub stack_pointer : Global
-stack_pointer = record { kind = I32; is_mutable = true; init = I32Const (pos 1048576) ∷ [] }
+-- ---- diagnostics
 
--- functions under their names, the first with this index
-abbrev pub exports_from : ℕ → List ConstFunction → List Export
-exports_from index [] = []
-exports_from index (f ∷ fs) = record { name = f.name; what = exported.Function index } ∷ exports_from (index + 1) fs
+-- a diagnostic of a file
+abbrev pub diag_of : List ℕ → Found → Diag
+diag_of path f = record { path = path; offset = f.span.start; code = f.code; text = f.text }
 
--- the module of these functions, in their order
-abbrev pub linked : List ConstFunction → Module
-linked fs = record {
-  types = types_of fs;
-  imports = [];
-  functions = map (λ _. record { 0 = 0 }) fs;
-  memories = record { min_pages = 16 } ∷ [];
-  globals = stack_pointer ∷ [];
-  exports = record { name = codes "memory"; what = exported.Memory 0 } ∷ exports_from 0 fs;
-  codes = map code_of fs;
-  segments = [];
-}
+abbrev pub diag_at_start : List ℕ → DiagCode → Diag
+diag_at_start path code = diag_of path (found_at code 0)
 
--- What a compilation gives: diagnostics of the files before any unit is analysed; diagnostics of the linker
--- after the units were; or a module's bytes.
+-- diagnostics in their places, sorted, each once
+abbrev pub placed : Files → List Diag → List Line
+placed files diags = in_order (map (line_of files) diags)
+
+-- ---- the diagnostics of each case
+
+-- the root is absent
+abbrev pub absence_diags : List ℕ → Option (List ℕ) → List Diag
+absence_diags path None = diag_at_start path RootMissing ∷ []
+absence_diags path (Some text) = []
+
+unfoldable pub root_diags : List ℕ → Files → List Diag
+root_diags root files = absence_diags root (file_at files root)
+
+-- a file of the built form has nothing against it, and any other that its form is not built
+abbrev pub form_faults : Option ConstFunction → List Found
+form_faults None = found_at NotBuilt 0 ∷ []
+form_faults (Some f) = []
+
+abbrev pub faults_or : List Found → List Found → List Found
+faults_or [] others = others
+faults_or (f ∷ fs) others = f ∷ fs
+
+-- what is wrong with a file: with its text, or else with its form
+abbrev pub source_faults : SourceForm → List Found
+source_faults source = faults_or source.front.found (form_faults source.built)
+
+abbrev pub source_diags : List ℕ → SourceForm → List Diag
+source_diags path source = map (diag_of path) (source_faults source)
+
+unfoldable pub file_diags : Files → List ℕ → List Diag
+file_diags files path = source_diags path (source_of (text_in files path))
+
+abbrev pub front_diags : List ℕ → Files → List Diag
+front_diags root files = flat_map (file_diags files) (reach root files)
+
+-- the functions that are compiled
+unfoldable pub functions : List ℕ → Files → List ConstFunction
+functions root files = option_to_list (source_of (text_in files root)).built
+
+-- the bytes of their module
+unfoldable pub module_of : List ℕ → Files → List ℕ
+module_of root files = module_bytes (linked (functions root files))
+
+-- what the linker has against a module of these bytes
+abbrev pub size_diags : List ℕ → List ℕ → List Diag
+size_diags root bytes = if nat_lt MOST_BYTES (length bytes) then diag_at_start root ModuleTooLarge ∷ [] else []
+
+abbrev pub link_diags : List ℕ → Files → List Diag
+link_diags root files = size_diags root (module_of root files)
+
+-- ---- the answer
+
+-- the cases before any unit is analysed, in their order
+abbrev pub early_cases : List ℕ → Files → List (List Diag)
+early_cases root files =
+    root_diags root files
+    ∷ front_diags root files
+    ∷ []
+
+-- and those after the units were analysed
+abbrev pub late_cases : List ℕ → Files → List (List Diag)
+late_cases root files =
+    link_diags root files
+    ∷ []
+
+-- the first that has a diagnostic
+abbrev pub first_of : List (List Diag) → List Diag
+first_of [] = []
+first_of ([] ∷ more) = first_of more
+first_of ((d ∷ ds) ∷ more) = d ∷ ds
+
+-- diagnostics in their places, or the bytes of a module
 pub data Compiled : Type 0 where
-  Front : List Line → Compiled
-  Refused : List ConstFunction → List Line → Compiled
-  Linked : List ConstFunction → List ℕ → Compiled
+  Refused : List Line → Compiled
+  Linked : List ℕ → Compiled
 
--- a diagnostic at the start of a file
-abbrev pub at_start : List ℕ → DiagCode → Line
-at_start path code = record { path = path; line = 1; col = 1; code = code; text = [] }
-
--- a diagnostic at a byte of a file's text
-abbrev pub at_byte : List ℕ → List ℕ → ℕ → DiagCode → Line
-at_byte path text offset code = record { path = path; line = line_at text offset; col = col_at text offset; code = code; text = [] }
-
--- the linker's answer for these functions
-abbrev pub link : List ℕ → List ConstFunction → Compiled
-link root fs =
-    if nat_lt 268435456 (length (module_bytes (linked fs))) then Refused fs (at_start root ModuleTooLarge ∷ [])
-    else Linked fs (module_bytes (linked fs))
-
--- a form that is built goes to the linker; every other sentence is a form that is not built yet
-abbrev pub compile_form : List ℕ → Option ConstFunction → Compiled
-compile_form root None = Front (at_start root NotBuilt ∷ [])
-compile_form root (Some f) = link root (f ∷ [])
-
-abbrev pub start_of_some : Option Token → ℕ
-start_of_some None = 0
-start_of_some (Some token) = token.span.start
-
--- where the token with this number begins
-abbrev pub start_of : List Token → ℕ → ℕ
-start_of tokens n = start_of_some (slice_get tokens n)
-
--- the diagnostics of a file's names and builtins
-abbrev pub name_faults : List ℕ → List Token → List Node → ℕ → List Found
-name_faults text tokens nodes root = scope_faults text tokens nodes root ++ builtin_faults text tokens nodes root
-
--- one of them in its place
-abbrev pub scope_line : List ℕ → List ℕ → Found → Line
-scope_line root text f = at_byte root text f.span.start f.code
-
--- a file whose names are in order goes on; another has the diagnostics of its names
-abbrev pub compile_scopes : List ℕ → List ℕ → List Token → List Found → Compiled
-compile_scopes root text tokens [] = compile_form root (built_of text tokens)
-compile_scopes root text tokens (f ∷ fs) = Front (in_order (map (scope_line root text) (f ∷ fs)))
-
--- tokens that are no sentence have one diagnostic, at the token that is refused; the root of a tree is
--- its last node
-abbrev pub compile_tree : List ℕ → List ℕ → List Token → Result (List Node) SyntaxFault → Compiled
-compile_tree root text tokens (Ok nodes) = compile_scopes root text tokens (name_faults text tokens nodes (length nodes - 1))
-compile_tree root text tokens (Err (syntax.Unexpected kind n)) = Front (at_byte root text (start_of tokens n) UnexpectedToken ∷ [])
-compile_tree root text tokens (Err (syntax.TooDeep n)) = Front (at_byte root text (start_of tokens n) TooDeep ∷ [])
--- no tokens have this one
-compile_tree root text tokens (Err syntax.OutOfMemory) = Front []
-
--- a text without tokens has one diagnostic, at the fault that it shows first
-abbrev pub compile_tokens : List ℕ → List ℕ → Result (List Token) LexFault → Compiled
-compile_tokens root text (Ok tokens) = compile_tree root text tokens (parse_of tokens)
-compile_tokens root text (Err (lex.BadByte at)) = Front (at_byte root text at BadByte ∷ [])
-compile_tokens root text (Err (lex.BadEscape at)) = Front (at_byte root text at BadEscape ∷ [])
-compile_tokens root text (Err (lex.OpenString at)) = Front (at_byte root text at OpenString ∷ [])
-compile_tokens root text (Err (lex.BadNumber at)) = Front (at_byte root text at BadNumber ∷ [])
--- no text has this one
-compile_tokens root text (Err lex.OutOfMemory) = Front []
-
-abbrev pub compile_text : List ℕ → Option (List ℕ) → Compiled
-compile_text root None = Front (at_start root RootMissing ∷ [])
-compile_text root (Some text) = compile_tokens root text (tokens_of text)
+-- the diagnostics of the case that applies, or the module where none does
+abbrev pub compiled : Files → List Diag → List ℕ → Compiled
+compiled files [] bytes = Linked bytes
+compiled files (d ∷ ds) bytes = Refused (placed files (d ∷ ds))
 
 -- the answer for the files, from the root on
-abbrev pub compile : List ℕ → List (List ℕ × List ℕ) → Compiled
-compile root files = compile_text root (file_at files root)
-
--- how many units are analysed: of each function its declaration, its body and its code
-abbrev pub analysed : List ConstFunction → ℕ
-analysed fs = 3 * length fs
-
--- what an update answers that reuses nothing
-abbrev pub update_of : Compiled → Update
-update_of (Front lines) = update.Errors lines 0 0
-update_of (Refused fs lines) = update.Errors lines (analysed fs) 0
-update_of (Linked fs bytes) = update.Module bytes (analysed fs) 0
+unfoldable pub compile : List ℕ → Files → Compiled
+compile root files = compiled files (first_of (early_cases root files ++ late_cases root files)) (module_of root files)

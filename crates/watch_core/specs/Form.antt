@@ -7,12 +7,8 @@ use lib.Pointwise.{pointwise}
 use Rattle.zig_tree.specs.declared.token.TokenKind.{TokenKind}
 use Rattle.zig_tree.specs.declared.token.Token.{Token}
 use Rattle.zig_tree.specs.Kinds.{is_kind}
+use Rattle.watch_core.specs.declared.form.ConstFunction.{ConstFunction}
 use Rattle.watch_core.specs.declared.form.TheConstants.{FORM, NAME, TYPE, NUMBER, RESERVED}
-
--- a function that gives a constant
-pub record ConstFunction : Type 0 where
-  pub name : List ℕ
-  pub value : ℕ
 
 abbrev pub is_letter : ℕ → Bool
 is_letter b = nat_le 97 b && nat_le b 122

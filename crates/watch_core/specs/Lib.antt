@@ -1,5 +1,10 @@
-pub mod ScopeDiags
 pub mod InOrder
 pub mod Form
+pub mod Front
+pub mod Link
 pub mod Compile
+pub mod Counts
+pub mod Sources
 pub mod SessionState
+pub mod Stages
+pub mod Placing

@@ -1,16 +1,17 @@
 // The one form that is built so far, told by tokens.
-ghost use Rattle.std.specs.Prelude.{◌≡◌, ◌≤◌, ◌<◌, ◌==◌};
+ghost use Rattle.std.specs.Prelude.{◌≡◌, ◌≤◌, ◌<◌, ◌==◌, IfOk};
 ghost use Rattle.std.specs.List.{list_any, list_all};
-ghost use Rattle.std.specs.Option.{option_map};
 ghost use lib.Pointwise.{pointwise};
 ghost use Rattle.watch_core.specs.Form.{is_letter, is_digit, is_name, is_reserved, is_plain, int_of, have_kinds, bytes_of, bytes_at, built_from, built_of};
 
+use std::alloc::{AllocError, Global};
 use zig_tree::{Token, TokenKind, same_kind};
+use zw_base::Bytes;
 
 /// A function that gives a constant.
-#[derive(Clone, Copy, Debug)]
-pub struct ConstFn<'a> {
-    pub name: &'a [u8],
+#[derive(Debug, Drop)]
+pub struct ConstFunction {
+    pub name: Bytes,
     pub value: u32,
 }
 
@@ -37,57 +38,9 @@ const TYPE: usize = 5;
 
 const NUMBER: usize = 8;
 
-/// What no function may be called: Zig's keywords, and the names that stand for types and values.
-const RESERVED: [&str; 61] = [
-    "addrspace",
-    "align",
-    "allowzero",
-    "and",
-    "anyframe",
-    "anytype",
-    "asm",
-    "async",
-    "await",
-    "break",
-    "callconv",
-    "catch",
-    "comptime",
-    "const",
-    "continue",
-    "defer",
-    "else",
-    "enum",
-    "errdefer",
-    "error",
-    "export",
-    "extern",
-    "fn",
-    "for",
-    "if",
-    "inline",
-    "linksection",
-    "noalias",
-    "noinline",
-    "nosuspend",
-    "opaque",
-    "or",
-    "orelse",
-    "packed",
-    "pub",
-    "resume",
-    "return",
-    "struct",
-    "suspend",
-    "switch",
-    "test",
-    "threadlocal",
-    "try",
-    "union",
-    "unreachable",
-    "usingnamespace",
-    "var",
-    "volatile",
-    "while",
+/// The identifiers that name no function of the form: names that stand for types and values, and the
+/// memory's export.
+const RESERVED: [&str; 12] = [
     "bool",
     "void",
     "type",
@@ -105,30 +58,42 @@ const RESERVED: [&str; 61] = [
 /// The function that tokens are, where they are those of `export fn NAME() u32 { return INT; }`: NAME
 /// of 1 to 64 small letters and not reserved, INT in plain digits and below 2^32.
 #[tactic(auto, unfolding(crate::specs::Form::built_of))]
-pub fn built_of<'a>(text: &'a [u8], tokens: &[Token]) -> Option<ConstFn<'a>>
-    ensures { option_map (λ f. record { name = f.name.now; value = f.value }) result ≡ built_of text.entry.now tokens.now }
+pub fn built_of(
+    alloc: Global,
+    text: &[u8],
+    tokens: &[Token],
+) -> Result<Option<ConstFunction>, AllocError>
+    ensures { IfOk result (λ f. f ≡ built_of text.now tokens.now) }
 {
     if !have_kinds(tokens, &FORM) {
-        return None;
+        return Ok(None);
     }
     built_from(
+        alloc,
         bytes_at(text, tokens, NAME),
         bytes_at(text, tokens, TYPE),
         bytes_at(text, tokens, NUMBER),
     )
 }
 
+/// The function, from its name, its type and its number.
 #[tactic(auto, unfolding(crate::specs::Form::built_from))]
-fn built_from<'a>(name: &'a [u8], type_name: &[u8], digits: &[u8]) -> Option<ConstFn<'a>>
-    ensures { option_map (λ f. record { name = f.name.now; value = f.value }) result ≡ built_from name.entry.now type_name.now digits.now }
+fn built_from(
+    alloc: Global,
+    name: &[u8],
+    type_name: &[u8],
+    digits: &[u8],
+) -> Result<Option<ConstFunction>, AllocError>
+    ensures { IfOk result (λ f. f ≡ built_from name.now type_name.now digits.now) }
 {
     if !is_name(name) || *type_name != *b"u32".as_slice() {
-        return None;
+        return Ok(None);
     }
-    match int_of(digits) {
-        Some(value) => Some(ConstFn { name, value }),
-        None => None,
-    }
+    let Some(value) = int_of(digits) else {
+        return Ok(None);
+    };
+    let name = Bytes::of(Vec::from_slice(alloc, name)?);
+    Ok(Some(ConstFunction { name, value }))
 }
 
 /// Whether the kinds of tokens are these.

@@ -1,17 +1,18 @@
 // A session over files.
-ghost use Rattle.std.specs.Prelude.{◌≡◌, ◌≢◌, ◌≤◌, ◌<◌, ◌+◌, ◌*◌, ◌-◌, [], length, IfOk, OnOk, OnErr, Some, None};
-ghost use Rattle.std.specs.Option.{option_map};
-ghost use Rattle.zw_base.specs.Outside.{file_at};
-ghost use Rattle.watch_core.specs.SessionState.{total_bytes, with_file};
+ghost use Rattle.std.specs.Prelude.{◌≡◌, ◌≢◌, ◌≤◌, ◌<◌, ◌+◌, ◌*◌, ◌↔◌, ℕ, List, [], length, IsTrue, IfOk, OnOk, OnErr};
+ghost use Rattle.zw_base.specs.Limits.{AreWithin, sizes_of};
+ghost use Rattle.zw_base.specs.declared.limits.TheConstants.{LIMITS};
+ghost use Rattle.watch_core.specs.SessionState.{MeetsLimit, limit_passed, total_bytes, with_file};
 
-use crate::compile::compile_text;
+use crate::compile::answer;
+use crate::sources::{Sources, Texts, forget_other};
 use diag_order::Line;
 use std::alloc::{AllocError, Global};
 use std::collections::BTreeMap;
 use std::marker::Model;
 use thiserror::Error;
-use zw_base::limits::{FILE_BYTES, FILES, TOTAL_BYTES};
-use zw_base::{Bytes, FilePath, Seq, Which};
+use zw_base::limits::FILES;
+use zw_base::{Bytes, FilePath, LIMITS, Seq, Tally, Which};
 
 /// The answer of an update.
 #[derive(Debug, Drop)]
@@ -45,29 +46,29 @@ pub enum SetFault {
 #[derive(Debug, Drop)]
 pub struct Session {
     root: FilePath,
-    files: BTreeMap<FilePath, Bytes>,
+    files: Texts,
     /// The bytes of all files.
     total: u64,
+    /// The files that were read, each as it stands.
+    sources: Sources,
     jobs: u32,
     shards: u32,
     pool_words: usize,
 }
 
 impl Model for Session {
-    ghost use Rattle.std.specs.Prelude.{◌≡◌, ◌≤◌};
-    ghost use Rattle.zw_base.specs.declared.limits.TheConstants.{TOTAL_BYTES};
-    ghost use Rattle.watch_core.specs.SessionState.{SessionState, total_bytes};
+    ghost use Rattle.watch_core.specs.SessionState.{SessionState, IsKept};
 
     ghost Value = { SessionState };
 
     ghost view = { λ s. record { root = s.root; files = s.files.entries } };
 
-    ghost invariant = { λ s. (s.total ≡ total_bytes s.files.entries) × (s.total ≤ TOTAL_BYTES) };
+    ghost invariant = { λ s. IsKept s.files.entries s.total s.sources.entries };
 }
 
 impl Session {
-    ghost use Rattle.watch_core.specs.SessionState.{with_file, total_bytes, limit_passed, MeetsLimit};
-    ghost use Rattle.watch_core.specs.Compile.{compile, update_of};
+    ghost use Rattle.watch_core.specs.Compile.{compile};
+    ghost use Rattle.watch_core.specs.Counts.{counts, update_of, Nothing};
 
     /// A session without files. `jobs` is the number of workers, `shards` that of the intern pool's
     /// shards and `pool_words` the pool's size at first.
@@ -87,10 +88,18 @@ impl Session {
             root,
             files: BTreeMap::new(alloc),
             total: 0,
+            sources: BTreeMap::new(alloc),
             jobs,
             shards,
             pool_words,
         })
+    }
+
+    /// Whether there are as many files as there may be. Takes no memory.
+    pub fn is_full(&self) -> bool
+        ensures { IsTrue result ↔ (FILES ≤ length self.now.files) }
+    {
+        self.files.len() as u64 >= FILES
     }
 
     /// Sets or replaces a file. The limits are judged in the order FileBytes, Files, TotalBytes, for
@@ -100,25 +109,8 @@ impl Session {
         ensures limit { MeetsLimit result (limit_passed self.old.files path bytes.items) }
         ensures err { OnErr result (self.new ≡ self.old) }
     {
-        if bytes.len() as u64 > FILE_BYTES {
-            return Err(SetFault::Limit {
-                which: Which::FileBytes,
-                number: FILE_BYTES,
-            });
-        }
-        let (count, total) = measured(&self.files, self.total, &path, bytes.as_slice());
-        if count > FILES {
-            return Err(SetFault::Limit {
-                which: Which::Files,
-                number: FILES,
-            });
-        }
-        if total > TOTAL_BYTES {
-            return Err(SetFault::Limit {
-                which: Which::TotalBytes,
-                number: TOTAL_BYTES,
-            });
-        }
+        let total = allowed(&self.files, self.total, &path, bytes.as_slice())?;
+        forget_other(&self.files, &path, bytes.as_slice(), &mut self.sources);
         match self.files.insert(path, Bytes::of(bytes)) {
             Ok(_) => {
                 self.total = total;
@@ -131,43 +123,51 @@ impl Session {
     /// Answers for the files as they stand, on the caller's thread alone. After `Memory` the files
     /// are as before.
     pub fn update_sole(&mut self, alloc: Global) -> Update
-        ensures answer { result ≢ Update.Memory → result ≡ update_of (compile self.old.root self.old.files) }
+        ensures answer { result ≢ Update.Memory → result ≡ update_of (compile self.old.root self.old.files) (counts self.old.root self.old.files Nothing) }
         ensures files { self.new ≡ self.old }
+        ensures within { AreWithin LIMITS (sizes_of self.old.files) }
     {
-        match compile_text(alloc, &self.root, text_of(&self.files, &self.root)) {
+        match answer(alloc, &self.root, &self.files, &mut self.sources) {
             Ok(update) => update,
             Err(AllocError) => Update::Memory,
         }
     }
 }
 
-/// The text of the file at a path.
-#[tactic(auto, using(crate::proofs::FilesLemmas::at_path_is))]
-fn text_of<'a>(files: &'a BTreeMap<FilePath, Bytes>, path: &FilePath) -> Option<&'a [u8]>
-    ensures { option_map (λ t. t.now) result ≡ file_at files.entry.now.entries path.now }
+/// How many bytes there would be with one more file, or with another text for one, where no limit is
+/// passed.
+fn allowed(files: &Texts, total: u64, path: &FilePath, bytes: &[u8]) -> Result<u64, SetFault>
+    requires within { AreWithin LIMITS (sizes_of files.now.entries) }
+    requires total { total ≡ total_bytes files.now.entries }
+    ensures total { IfOk result (λ total. total ≡ total_bytes (with_file files.now.entries path.now bytes.now)) }
+    ensures limit { MeetsLimit result (limit_passed files.now.entries path.now bytes.now) }
 {
-    match files.get(path) {
-        Some(bytes) => Some(bytes.as_slice()),
-        None => None,
+    let others = beside(files, total, path);
+    match LIMITS.passed_beside(others, bytes.len() as u64) {
+        None => Ok(others.bytes + bytes.len() as u64),
+        Some(which) => Err(SetFault::Limit {
+            which,
+            number: u64::from(LIMITS.number(which)),
+        }),
     }
 }
 
-/// How many files and how many bytes there would be with one more file, or with another text for one.
-fn measured(
-    files: &BTreeMap<FilePath, Bytes>,
-    total: u64,
-    path: &FilePath,
-    bytes: &[u8],
-) -> (u64, u64)
-    requires total { total ≡ total_bytes files.now.entries }
-    requires within { total ≤ TOTAL_BYTES }
-    requires length { length bytes.now ≤ FILE_BYTES }
-    ensures count { result.0 ≡ length (with_file files.now.entries path.now bytes.now) }
-    ensures total { result.1 ≡ total_bytes (with_file files.now.entries path.now bytes.now) }
+/// The files beside the one at a path.
+fn beside(files: &Texts, total: u64, path: &FilePath) -> Tally
+    requires { total ≡ total_bytes files.now.entries }
+    ensures files { (bytes : List ℕ) → result.files + 1 ≡ length (with_file files.now.entries path.now bytes) }
+    ensures bytes { (bytes : List ℕ) → result.bytes + length bytes ≡ total_bytes (with_file files.now.entries path.now bytes) }
+    ensures within { result.bytes ≤ total }
 {
     let count = files.len() as u64;
     match files.get(path) {
-        None => (count + 1, total + bytes.len() as u64),
-        Some(old) => (count, total - old.len() as u64 + bytes.len() as u64),
+        None => Tally {
+            files: count,
+            bytes: total,
+        },
+        Some(old) => Tally {
+            files: count - 1,
+            bytes: total - old.len() as u64,
+        },
     }
 }

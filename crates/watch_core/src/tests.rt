@@ -47,64 +47,78 @@ fn answers_for_the_files_as_they_stand(rt: HostRuntime) -> Result<(), Fail> {
     Ok(())
 }
 
+/// Texts with the code and the place of their one diagnostic: of the text, of its names, or else of its
+/// form.
+const ROWS: [(&str, DiagCode, u32, u32); 17] = [
+    ("", DiagCode::NotBuilt, 1, 1),
+    (
+        "export fn f() u32 { return 4294967296; }",
+        DiagCode::NotBuilt,
+        1,
+        1,
+    ),
+    (
+        "export fn f() u32 { return 0x7; }",
+        DiagCode::NotBuilt,
+        1,
+        1,
+    ),
+    (
+        "export fn f() u32 { return 1_0; }",
+        DiagCode::NotBuilt,
+        1,
+        1,
+    ),
+    ("export fn f1() u32 { return 7; }", DiagCode::NotBuilt, 1, 1),
+    (
+        "export fn @\"f\"() u32 { return 7; }",
+        DiagCode::NotBuilt,
+        1,
+        1,
+    ),
+    (
+        "export fn true() u32 { return 7; }",
+        DiagCode::NotBuilt,
+        1,
+        1,
+    ),
+    ("export fn f() u16 { return 7; }", DiagCode::NotBuilt, 1, 1),
+    (
+        "export fn f() u32 { return 07; }",
+        DiagCode::BadNumber,
+        1,
+        28,
+    ),
+    (
+        "export fn fn() u32 { return 7; }",
+        DiagCode::UnexpectedToken,
+        1,
+        11,
+    ),
+    (
+        "\n export fn f() u32 { return 7 }",
+        DiagCode::UnexpectedToken,
+        2,
+        31,
+    ),
+    ("// x\nconst x = \"", DiagCode::OpenString, 2, 11),
+    ("const a = b;", DiagCode::Undeclared, 1, 11),
+    ("const E = enum { a, a };", DiagCode::NameUsed, 1, 21),
+    ("fn f(x: u32) void {}", DiagCode::NeverUsed, 1, 6),
+    (
+        "fn f() u8 { var x: u8 = 1; return x; }",
+        DiagCode::NeverChanged,
+        1,
+        17,
+    ),
+    ("fn f() void { break; }", DiagCode::NothingToLeave, 1, 15),
+];
+
 #[test]
-fn builds_exactly_one_form(rt: HostRuntime) -> Result<(), Fail> {
+fn tells_what_is_wrong_with_a_text(rt: HostRuntime) -> Result<(), Fail> {
     let alloc = rt.alloc();
     let mut session = session(alloc)?;
-    for (text, code, line, col) in [
-        ("", DiagCode::NotBuilt, 1, 1),
-        (
-            "export fn f() u32 { return 4294967296; }",
-            DiagCode::NotBuilt,
-            1,
-            1,
-        ),
-        (
-            "export fn f() u32 { return 0x7; }",
-            DiagCode::NotBuilt,
-            1,
-            1,
-        ),
-        (
-            "export fn f() u32 { return 1_0; }",
-            DiagCode::NotBuilt,
-            1,
-            1,
-        ),
-        ("export fn f1() u32 { return 7; }", DiagCode::NotBuilt, 1, 1),
-        (
-            "export fn @\"f\"() u32 { return 7; }",
-            DiagCode::NotBuilt,
-            1,
-            1,
-        ),
-        (
-            "export fn true() u32 { return 7; }",
-            DiagCode::NotBuilt,
-            1,
-            1,
-        ),
-        ("export fn f() u16 { return 7; }", DiagCode::NotBuilt, 1, 1),
-        (
-            "export fn f() u32 { return 07; }",
-            DiagCode::BadNumber,
-            1,
-            28,
-        ),
-        (
-            "export fn fn() u32 { return 7; }",
-            DiagCode::UnexpectedToken,
-            1,
-            11,
-        ),
-        (
-            "\n export fn f() u32 { return 7 }",
-            DiagCode::UnexpectedToken,
-            2,
-            31,
-        ),
-        ("// x\nconst x = \"", DiagCode::OpenString, 2, 11),
-    ] {
+    for (text, code, line, col) in ROWS {
         session.set_file(
             FilePath::of(alloc, "m.zig")?,
             Vec::from_slice(alloc, text.as_bytes())?,
@@ -152,36 +166,5 @@ fn keeps_its_limits(rt: HostRuntime) -> Result<(), Fail> {
     );
     session.set_file(FilePath::of(alloc, "f0")?, Vec::new(alloc))?;
     session.set_file(FilePath::of(alloc, "a")?, vec![in alloc; b' ']?)?;
-    Ok(())
-}
-
-#[test]
-fn tells_of_names_before_the_form(rt: HostRuntime) -> Result<(), Fail> {
-    let alloc = rt.alloc();
-    let mut session = session(alloc)?;
-    for (text, code, col) in [
-        ("const a = b;", DiagCode::Undeclared, 11),
-        ("const E = enum { a, a };", DiagCode::NameUsed, 21),
-        ("fn f(x: u32) void {}", DiagCode::NeverUsed, 6),
-        (
-            "fn f() u8 { var x: u8 = 1; return x; }",
-            DiagCode::NeverChanged,
-            17,
-        ),
-        ("fn f() void { break; }", DiagCode::NothingToLeave, 15),
-    ] {
-        session.set_file(
-            FilePath::of(alloc, "m.zig")?,
-            Vec::from_slice(alloc, text.as_bytes())?,
-        )?;
-        let Update::Errors { lines, .. } = session.update_sole(alloc) else {
-            return Err(Fail::from(text));
-        };
-        let found = lines
-            .as_slice()
-            .first()
-            .map(|found| (found.code, found.line, found.col));
-        assert_eq!(rt; found, Some((code, 1, col)), "{text}");
-    }
     Ok(())
 }

@@ -9,8 +9,9 @@ use Rattle.watch_core.specs.declared.session.Update.TheVariants as update
 use Rattle.zw_base.specs.declared.status.Status.TheVariants as status
 use Rattle.watch_core.specs.declared.session.Update.{Update}
 use Rattle.zw_base.specs.Outside.{Rose}
-use Rattle.watch_main.specs.Session.{update_text}
+use Rattle.watch_main.specs.AnswerText.{update_text}
 use Rattle.watch_main.specs.Steps.{taken_with, TookFront, Ends, first_answer}
+use Rattle.watch_main.proofs.MemoryLemmas.{memory_text}
 
 -- two pieces, one behind the other
 pub taken_with-append : (taken : Option (List ℕ)) (first second : List ℕ) → taken_with (taken_with taken first) second ≡ taken_with taken (first ++ second)
@@ -42,20 +43,17 @@ front_of_second old mid new first second e t = record {
   taken = t.taken ∙ ap (λ taken. taken_with taken t.written) e ∙ taken_with-append old first t.written;
 }
 
-memory_text : codes "update 1 memory\n" ≡ update_text 1 update.Memory
-memory_text = ap (λ number. concat (codes "update " ∷ number ∷ codes " memory\n" ∷ [])) (sym (decimal_digit 1 (omega arith)))
-
 -- the sink failed in an answer's text
 pub fault_ends : (memory : Bool) (old new : Option (List ℕ)) (text : List ℕ) (answer : Update) → text ≡ update_text 1 (first_answer memory answer) → TookFront old new text → Ends status.WriteFault old new answer
 fault_ends memory old new text answer is t = record { memory = memory; written = t.written; taken = t.taken; fits = (t.rest, sym is ∙ t.whole) }
 
 -- it was written that the first update found no memory
 pub memory_ends : (old new : Option (List ℕ)) (answer : Update) → new ≡ taken_with old (codes "update 1 memory\n") → Ends status.Memory old new answer
-memory_ends old new answer e = record { memory = true; written = codes "update 1 memory\n"; taken = e; fits = inr (memory_text, refl) }
+memory_ends old new answer e = record { memory = true; written = codes "update 1 memory\n"; taken = e; fits = (sym memory_text, refl) }
 
 -- the sink failed on the way
 pub memory_fault_ends : (old new : Option (List ℕ)) (answer : Update) → TookFront old new (codes "update 1 memory\n") → Ends status.WriteFault old new answer
-memory_fault_ends old new answer t = fault_ends true old new _ answer memory_text t
+memory_fault_ends old new answer t = fault_ends true old new _ answer (sym memory_text) t
 
 -- a clause on an error, from what follows from it
 pub OnErr-weaken : {T E P Q : Type 0} (r : Result T E) → (Q → P) → OnErr r Q → OnErr r P

@@ -1,4 +1,6 @@
+pub mod Words
+pub mod AnswerText
+pub mod Memory
 pub mod Session
 pub mod RunOnce
 pub mod Steps
-pub mod AnswerText

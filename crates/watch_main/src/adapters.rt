@@ -42,7 +42,7 @@ impl<R: rt::Files> Files for FolderFiles<'_, R> {
         into.clear();
         let mut file = match fs::open(self.rt, path.as_str()) {
             Ok(file) => file,
-            Err(e) if e.kind() == ErrorKind::NotFound => return Fetched::Absent,
+            Err(e) if is_absence(e.kind()) => return Fetched::Absent,
             Err(_) => return self.failed(),
         };
         match read_whole(&mut file, limit, into) {
@@ -50,6 +50,11 @@ impl<R: rt::Files> Files for FolderFiles<'_, R> {
             fetched => fetched,
         }
     }
+}
+
+/// Whether a file that could not be opened is not there. Below a file there are no others.
+fn is_absence(kind: ErrorKind) -> bool {
+    matches!(kind, ErrorKind::NotFound | ErrorKind::NotADirectory)
 }
 
 /// Reads to the end, or past the limit.

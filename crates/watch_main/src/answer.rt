@@ -3,8 +3,7 @@ ghost use Rattle.std.specs.Prelude.{◌≡◌, ◌≤◌, ◌++◌, IfOk, OnOk, 
 ghost use Rattle.std.specs.List.{flat_map};
 ghost use Rattle.std.specs.String.{string_bytes};
 ghost use Rattle.zw_base.specs.Outside.{Rose};
-ghost use Rattle.watch_main.specs.Session.{message, place_text, line_text, head_text, update_text};
-ghost use Rattle.watch_main.specs.AnswerText.{text_of, Says};
+ghost use Rattle.watch_main.specs.AnswerText.{message, place_text, line_text, head_text, text_of, update_text, Says};
 ghost use Rattle.watch_core.specs.declared.session.Update.{Update};
 ghost use Rattle.watch_main.specs.Steps.{taken_with, TookFront, Ends, IsWritten};
 

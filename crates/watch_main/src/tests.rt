@@ -1,8 +1,10 @@
 // Runs over the outside in memory.
-use crate::run::run_once;
+use crate::run::{opened, run_once};
+use crate::words::Words;
 use std::alloc::{AllocError, Global};
 use std::test::Fail;
-use zw_base::{Bytes, FilePath, MemFiles, MemSink, Seq, Status, SureFiles, SureSink};
+use zw_base::limits::FILES;
+use zw_base::{Bytes, FilePath, MemFiles, MemSink, Seq, SureFiles, SureSink};
 
 /// The module of `export fn f() u32 { return 7; }`.
 const MODULE: &[u8; 60] =
@@ -42,52 +44,93 @@ fn whole(alloc: Global) -> Result<Vec<u8>, AllocError> {
     Ok(text)
 }
 
-#[test]
-fn writes_the_module(rt: HostRuntime) -> Result<(), Fail> {
-    let alloc = rt.alloc();
-    let mut held = SureFiles::new(files(alloc, SEVEN)?);
-    let mut out = MemSink::new(alloc, 1_000, 1_000, calls(alloc, None)?)?;
-    let status = run_once(
-        alloc,
-        words(alloc, "m.zig")?.as_slice(),
-        &mut held,
-        &mut out,
-    );
-    assert_eq!(rt; status.code(), 0);
-    assert_eq!(rt; out.taken(), whole(alloc)?.as_slice());
+/// A text, how many `(` follow it, and what a run over it writes and how it ends.
+const ROWS: [(&str, usize, &[u8], u8); 9] = [
+    (
+        "export fn f() u32 { return 7; }",
+        0,
+        b"update 1 module 60 analysed 3 reused 0\n\x00asm\x01\x00\x00\x00\x01\x05\x01\x60\x00\x01\x7f\x03\x02\x01\x00\x05\x03\x01\x00\x10\x06\x09\x01\x7f\x01\x41\x80\x80\xc0\x00\x0b\x07\x0e\x02\x06memory\x02\x00\x01f\x00\x00\x0a\x07\x01\x05\x00\x41\x07\x0f\x0b\n",
+        0,
+    ),
+    (
+        "export fn abc() u32 { return 4294967295; }",
+        0,
+        b"update 1 module 62 analysed 3 reused 0\n\x00asm\x01\x00\x00\x00\x01\x05\x01\x60\x00\x01\x7f\x03\x02\x01\x00\x05\x03\x01\x00\x10\x06\x09\x01\x7f\x01\x41\x80\x80\xc0\x00\x0b\x07\x10\x02\x06memory\x02\x00\x03abc\x00\x00\x0a\x07\x01\x05\x00\x41\x7f\x0f\x0b\n",
+        0,
+    ),
+    (
+        "export fn f() u32 { return 4294967296; }",
+        0,
+        b"update 1 errors 1 analysed 0 reused 0\nm.zig:1:1: error: E000 this form is not built yet\n",
+        1,
+    ),
+    (
+        "export fn f() u32 { return 7 }",
+        0,
+        b"update 1 errors 1 analysed 0 reused 0\nm.zig:1:30: error: E111 unexpected token\n",
+        1,
+    ),
+    (
+        "const big = 170141183460469231731687303715884105728;\nexport fn f() u32 { return if (big > 0) 1 else 2; }",
+        0,
+        b"update 1 errors 1 analysed 0 reused 0\nm.zig:1:13: error: E104 bad number\n",
+        1,
+    ),
+    (
+        "const x = ",
+        197,
+        b"update 1 errors 1 analysed 0 reused 0\nm.zig:1:207: error: E112 nested too deep\n",
+        1,
+    ),
+    (
+        "const x = ",
+        196,
+        b"update 1 errors 1 analysed 0 reused 0\nm.zig:1:207: error: E111 unexpected token\n",
+        1,
+    ),
+    (
+        "fn f(x: u32) void { const y = 1; }",
+        0,
+        b"update 1 errors 2 analysed 0 reused 0\nm.zig:1:6: error: E203 name is never used\nm.zig:1:27: error: E203 name is never used\n",
+        1,
+    ),
+    (
+        "const s = \"\\q\";",
+        0,
+        b"update 1 errors 1 analysed 0 reused 0\nm.zig:1:12: error: E102 bad escape\n",
+        1,
+    ),
+];
 
-    let status = run_once(
-        alloc,
-        words(alloc, "m.zig")?.as_slice(),
-        &mut held,
-        &mut SureSink,
-    );
-    assert_eq!(rt; status.code(), 0, "a sink that tells nothing");
-    let status = run_once(
-        alloc,
-        words(alloc, "n.zig")?.as_slice(),
-        &mut held,
-        &mut SureSink,
-    );
-    assert_eq!(rt; status.code(), 6, "a file that is not there");
+/// Each answer whole, by a sink that takes seven bytes a call.
+#[test]
+fn writes_what_each_text_answers(rt: HostRuntime) -> Result<(), Fail> {
+    let alloc = rt.alloc();
+    for (text, open, wanted, code) in ROWS {
+        let mut text = Vec::from_slice(alloc, text.as_bytes())?;
+        for _ in 0..open {
+            text.push(b'(')?;
+        }
+        let mut held = SureFiles::new(files(alloc, text.as_slice())?);
+        let mut out = MemSink::new(alloc, 1_000, 7, calls(alloc, None)?)?;
+        let words = words(alloc, "m.zig")?;
+        let status = run_once(alloc, words.as_slice(), &mut held, &mut out);
+        assert_eq!(rt; out.taken(), wanted);
+        assert_eq!(rt; status.code(), code);
+    }
     Ok(())
 }
 
+/// A sink that tells nothing, and a file that is not there.
 #[test]
-fn says_that_a_form_is_not_built(rt: HostRuntime) -> Result<(), Fail> {
+fn ends_without_telling(rt: HostRuntime) -> Result<(), Fail> {
     let alloc = rt.alloc();
-    let mut held = SureFiles::new(files(alloc, b"export fn f() u32 { return 4294967296; }")?);
-    let mut out = MemSink::new(alloc, 1_000, 7, calls(alloc, None)?)?;
-    let status = run_once(
-        alloc,
-        words(alloc, "m.zig")?.as_slice(),
-        &mut held,
-        &mut out,
-    );
-    assert_eq!(rt; status.code(), 1);
-    let wanted: &[u8] =
-        b"update 1 errors 1 analysed 0 reused 0\nm.zig:1:1: error: E000 this form is not built yet\n";
-    assert_eq!(rt; out.taken(), wanted);
+    let mut held = SureFiles::new(files(alloc, SEVEN)?);
+    for (path, code) in [("m.zig", 0), ("n.zig", 6)] {
+        let words = words(alloc, path)?;
+        let status = run_once(alloc, words.as_slice(), &mut held, &mut SureSink);
+        assert_eq!(rt; status.code(), code, "{path}");
+    }
     Ok(())
 }
 
@@ -172,4 +215,36 @@ fn says_why_a_file_was_not_read(rt: HostRuntime) -> Result<(), Fail> {
     assert_eq!(rt; status.code(), 2);
     assert_eq!(rt; out.taken().len(), 0, "nothing is written");
     Ok(())
+}
+
+/// With as many files as there may be, one more is refused before it is looked for.
+#[test]
+fn counts_files_before_it_reads_them(rt: HostRuntime) -> Result<(), Fail> {
+    let alloc = rt.alloc();
+    let mut held = Vec::new(alloc);
+    let mut paths = Vec::new(alloc);
+    for number in 0..FILES {
+        let path = format!(in alloc; "f{number}")?;
+        held.push((
+            FilePath::of(alloc, path.as_str())?,
+            Bytes::of(Vec::new(alloc)),
+        ))?;
+        paths.push(FilePath::of(alloc, path.as_str())?)?;
+    }
+    paths.push(FilePath::of(alloc, "absent")?)?;
+    let asked = Words {
+        once: true,
+        root: FilePath::of(alloc, "f0")?,
+        paths: Seq::of(paths),
+        jobs: 1,
+        shards: 1,
+        load: None,
+    };
+    match opened(alloc, &asked, &mut SureFiles::new(Seq::of(held))) {
+        Ok(_) => Err(Fail::from("a session")),
+        Err(status) => {
+            assert_eq!(rt; status.to_string(alloc)?.as_str(), "limit Files 1024");
+            Ok(())
+        }
+    }
 }

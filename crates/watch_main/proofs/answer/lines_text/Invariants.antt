@@ -1,6 +1,6 @@
 use Rattle.std.proofs.Common.{◌≡◌, take}
 use Rattle.std.specs.List.{flat_map}
-use Rattle.watch_main.specs.Session.{line_text}
+use Rattle.watch_main.specs.AnswerText.{line_text}
 use Rattle.watch_main.proofs.answer.lines_text.Given as goal
 
 -- the lines so far
