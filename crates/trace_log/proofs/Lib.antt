@@ -7,3 +7,4 @@ pub mod NameLemmas
 pub mod IndexLemmas
 pub mod SnapshotLemmas
 pub mod StandLemmas
+pub mod ReplyLemmas

@@ -43,7 +43,7 @@ file_then k a path h g b = ap (option_and_then h) (file_read k a path g b) ∙ t
 
 -- ---- as more is known
 
-files-same : (k l : Known) (a : Answers) → Grows k l → IsInjective k → IsInjective l → AreAnswers k a → files_at l a ≡ files_at k a
+pub files-same : (k l : Known) (a : Answers) → Grows k l → IsInjective k → IsInjective l → AreAnswers k a → files_at l a ≡ files_at k a
 files-same k l a g m n h = λ i b. files-grow k l a g m n h b i
 
 -- ---- layer by layer

@@ -1,8 +1,12 @@
 -- What a snapshot answers, under the pairs that an interner knows.
 use Rattle.std.specs.Prelude.{◌≡◌, ℕ, List, [], Option, Some, None}
 use Rattle.std.specs.Option.{option_map, option_and_then}
+use Rattle.zir_form.specs.Core.{Core}
 use Rattle.zir_form.specs.declared.form.Form.{Form}
 use Rattle.zir_form.specs.declared.front.Front.{Front}
+use Rattle.zir_form.specs.declared.zir.ContainerRef.{ContainerRef}
+use Rattle.zir_form.specs.declared.zir.Part.{Part}
+use Rattle.zir_form.specs.declared.zir.Part.TheVariants as part
 use Rattle.zir_form.specs.Front.{front_in, lines_in}
 use Rattle.type_form.specs.declared.index.Index.{Index}
 use Rattle.type_form.specs.declared.unit.Unit.{Unit as AnyUnit}
@@ -12,8 +16,10 @@ use Rattle.elab_form.specs.Questions as plain
 use Rattle.trace_log.specs.declared.answers.Answers.{Answers}
 use Rattle.trace_log.specs.declared.question.UnitIndex.{UnitIndex}
 use Rattle.trace_log.specs.declared.result.UnitResult.{UnitResult}
+use Rattle.trace_log.specs.declared.replies.Extent.{Extent}
+use Rattle.trace_log.specs.declared.replies.Extent.TheVariants as extent
 use Rattle.trace_log.specs.declared.stands.Place.{Place}
-use Rattle.trace_log.specs.Files.{Files, Stand, file_answer, stand_by}
+use Rattle.trace_log.specs.Files.{Files, Stand, file_answer, head_at, stand_by, whole_at}
 use Rattle.trace_log.specs.Indices.{bytes_index, unit_index}
 use Rattle.trace_log.specs.Readings.{IsUnit, IsUnitResult, LinesOf, unit_result_at}
 use Rattle.trace_log.specs.TableStates.{table_get, unit_get}
@@ -56,6 +62,16 @@ results_at k a u = option_map (unit_result_at k) (option_and_then (result_get a)
 abbrev pub stand_at : Answers → Option Place → Option Stand
 stand_at a None = None
 stand_at a (Some place) = option_map (λ f. stand_by (front_in f) place.container) (front_get a place.front)
+
+-- a part of a declaration
+abbrev pub declared_part : Extent → ContainerRef → List ℕ → Part
+declared_part extent.Head container name = part.Head container name
+declared_part extent.Whole container name = part.Whole container name
+
+-- and its text in the declaration's container
+abbrev pub extent_at : Extent → List ℕ → Stand → Option Core
+extent_at extent.Head = head_at
+extent_at extent.Whole = whole_at
 
 -- The answer to a question, if there is one: to one about the files always, to one for a result where that is there.
 unfoldable pub given_at : Known → Answers → plain.Question → Option plain.Answer

@@ -8,6 +8,7 @@ mod answers;
 mod laws;
 mod names;
 mod question;
+mod replies;
 mod result;
 mod shared;
 mod stands;
