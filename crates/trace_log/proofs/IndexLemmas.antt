@@ -120,9 +120,9 @@ module _ (k : Known) (g : IsInjective k) where
       where-found k (has_bytes k (bytes_at k i)) i (bytes-there k i h)
       (ap (is_some_that (λ b. bytes_eq b (bytes_at k i))) (bytes_whole k i h) ∙ (bytes_eq-Decides (bytes_at k i) (bytes_at k i)).1 refl)
       (λ j e.
-          let t = that-tells (λ b. bytes_eq b (bytes_at k i)) (bytes_in (denoted k) j) e in
-          let p = bytes_part k j t.0 t.1 in
-          bytes_at-injective k j i g p.0 h (sym p.1 ∙ (bytes_eq-Decides t.0 (bytes_at k i)).0 t.2))
+      let t = that-tells (λ b. bytes_eq b (bytes_at k i)) (bytes_in (denoted k) j) e in
+      let p = bytes_part k j t.0 t.1 in
+      bytes_at-injective k j i g p.0 h (sym p.1 ∙ (bytes_eq-Decides t.0 (bytes_at k i)).0 t.2))
 
   -- the unit by indices that a unit is, is the one that stands for it
   pub unit_index-at : (u : UnitIndex) → IsUnit k u → unit_index k (unit_at k u) ≡ Some u

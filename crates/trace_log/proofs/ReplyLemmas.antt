@@ -39,7 +39,7 @@ pub named-text : (k l : Known) (a : Answers) (decl container name : Index) (e : 
     → option_and_then (extent_at e (bytes_at k name)) s ≡ decl_text (files_at k a) (extent_at e) (out-DeclPath (decl_at k decl))
 named-text k l a decl container name e s g m n h same t is =
     let here : s ≡ stand_of (files_at k a) (ty_at k container) =
-        is ∙ (ap (λ f. stand_of f (ty_at l container)) (files-same k l a g m n h) ∙ ap (stand_of (files_at k a)) (g.stays.ty container t)) in
+    is ∙ (ap (λ f. stand_of f (ty_at l container)) (files-same k l a g m n h) ∙ ap (stand_of (files_at k a)) (g.stays.ty container t)) in
     ap (option_and_then (extent_at e (bytes_at k name))) here ∙ sym (ap (decl_text (files_at k a) (extent_at e)) same)
 
 -- what is read at the place of the container is that text
@@ -51,6 +51,6 @@ pub read-text : (k l : Known) (a : Answers) (decl container name : Index) (e : E
     → text ≡ decl_text (files_at k a) (extent_at e) (out-DeclPath (decl_at k decl))
 read-text k l a decl container name e place q bytes text g m n h same t is read part_is name_is =
     read
-        ∙ (ap (λ r. option_and_then (λ f. text_answer (front_in f) r) (front_get a place.front)) (part_is ∙ ap (declared_part e place.container) name_is)
-        ∙ (place-text a e (bytes_at k name) place
-        ∙ named-text k l a decl container name e (stand_at a (Some place)) g m n h same t is))
+    ∙ (ap (λ r. option_and_then (λ f. text_answer (front_in f) r) (front_get a place.front)) (part_is ∙ ap (declared_part e place.container) name_is)
+    ∙ (place-text a e (bytes_at k name) place
+    ∙ named-text k l a decl container name e (stand_at a (Some place)) g m n h same t is))

@@ -48,10 +48,10 @@ bytes-fresh k l g m b i e h =
 pub files-grow : (k l : Known) (a : Answers) → Grows k l → IsInjective k → IsInjective l → AreAnswers k a → (b : List ℕ) → files_at l a b ≡ files_at k a b
 files-grow k l a g m n h b =
     ap (option_map front_in) (looked-up (front_at a) (bytes_index k b) (bytes_index l b) (bytes-kept k l g n b)
-        (λ i e. elim (none-or-some (file_get a i)) as (λ _. (front_at a i ≡ None) ⊎ (bytes_index k b ≡ Some i)) [
-            inl none ↦ inl (ap (option_and_then (front_get a)) none)
-          | inr t ↦ inr (bytes-fresh k l g m b i e (h.files i t.0 t.1))
-          ]))
+    (λ i e. elim (none-or-some (file_get a i)) as (λ _. (front_at a i ≡ None) ⊎ (bytes_index k b ≡ Some i)) [
+      | inl none ↦ inl (ap (option_and_then (front_get a)) none)
+      | inr t ↦ inr (bytes-fresh k l g m b i e (h.files i t.0 t.1))
+    ]))
 
 -- ---- units
 
@@ -72,17 +72,17 @@ results-found : (k l : Known) (a : Answers) → Grows k l → IsInjective k → 
 results-found k l a g m n h x =
     looked-up (result_get a) (unit_index k x) (unit_index l x) (unit-kept k l g n x)
     (λ u e. elim (none-or-some (result_get a u)) as (λ _. (result_get a u ≡ None) ⊎ (unit_index k x ≡ Some u)) [
-        inl none ↦ inl none
+      | inl none ↦ inl none
       | inr t ↦ inr (unit-fresh k l g m x u e (h.units u t.0 t.1))
-      ])
+    ])
 
 -- what was looked up is of the snapshot
 read-alike : (k l : Known) (a : Answers) → Grows k l → AreAnswers k a → (o : Option UnitIndex) → option_map (unit_result_at l) (option_and_then (result_get a) o) ≡ option_map (unit_result_at k) (option_and_then (result_get a) o)
 read-alike k l a g h None = refl
 read-alike k l a g h (Some u) =
     elim (none-or-some (result_get a u)) as (λ _. option_map (unit_result_at l) (result_get a u) ≡ option_map (unit_result_at k) (result_get a u)) [
-      inl none ↦ ap (option_map (unit_result_at l)) none ∙ sym (ap (option_map (unit_result_at k)) none)
-    | inr t ↦ ap (option_map (unit_result_at l)) t.1 ∙ (ap Some (unit_result-grows k l t.0 g (h.results u t.0 t.1)) ∙ sym (ap (option_map (unit_result_at k)) t.1))
+      | inl none ↦ ap (option_map (unit_result_at l)) none ∙ sym (ap (option_map (unit_result_at k)) none)
+      | inr t ↦ ap (option_map (unit_result_at l)) t.1 ∙ (ap Some (unit_result-grows k l t.0 g (h.results u t.0 t.1)) ∙ sym (ap (option_map (unit_result_at k)) t.1))
     ]
 
 pub results-grow : (k l : Known) (a : Answers) → Grows k l → IsInjective k → IsInjective l → AreAnswers k a → (x : AnyUnit) → results_at l a x ≡ results_at k a x

@@ -52,28 +52,28 @@ files-same k l a g m n h = λ i b. files-grow k l a g m n h b i
 ty_mapped : Files → TyLayer → Ty-F (Unit {0}) (ℕ → Option Stand) (Option Stand) (Unit {0})
 ty_mapped files x =
     map-Ty Arg DeclPath Ty Value (Unit {0}) (ℕ → Option Stand) (Option Stand) (Unit {0})
-        (fold-Arg (Unit {0}) (ℕ → Option Stand) (Option Stand) (Unit {0}) arg_stand (decl_stands files) (ty_stand files) value_stand)
-        (declared_stand files) (stand_of files)
-        (fold-Value (Unit {0}) (ℕ → Option Stand) (Option Stand) (Unit {0}) arg_stand (decl_stands files) (ty_stand files) value_stand) x
+    (fold-Arg (Unit {0}) (ℕ → Option Stand) (Option Stand) (Unit {0}) arg_stand (decl_stands files) (ty_stand files) value_stand)
+    (declared_stand files) (stand_of files)
+    (fold-Value (Unit {0}) (ℕ → Option Stand) (Option Stand) (Unit {0}) arg_stand (decl_stands files) (ty_stand files) value_stand) x
 
 decl_mapped : Files → DeclLayer → DeclPath-F (Unit {0}) (ℕ → Option Stand) (Option Stand) (Unit {0})
 decl_mapped files x =
     map-DeclPath Arg DeclPath Ty Value (Unit {0}) (ℕ → Option Stand) (Option Stand) (Unit {0})
-        (fold-Arg (Unit {0}) (ℕ → Option Stand) (Option Stand) (Unit {0}) arg_stand (decl_stands files) (ty_stand files) value_stand)
-        (declared_stand files) (stand_of files)
-        (fold-Value (Unit {0}) (ℕ → Option Stand) (Option Stand) (Unit {0}) arg_stand (decl_stands files) (ty_stand files) value_stand) x
+    (fold-Arg (Unit {0}) (ℕ → Option Stand) (Option Stand) (Unit {0}) arg_stand (decl_stands files) (ty_stand files) value_stand)
+    (declared_stand files) (stand_of files)
+    (fold-Value (Unit {0}) (ℕ → Option Stand) (Option Stand) (Unit {0}) arg_stand (decl_stands files) (ty_stand files) value_stand) x
 
 stand-by : (files : Files) (t : Ty) (x : TyLayer) → out-Ty t ≡ x → stand_of files t ≡ ty_stand files (ty_mapped files x)
 unfolding ty_mapped
 stand-by files t x e =
     fold_out-Ty (Unit {0}) (ℕ → Option Stand) (Option Stand) (Unit {0}) arg_stand (decl_stands files) (ty_stand files) value_stand t
-        ∙ ap (λ y. ty_stand files (ty_mapped files y)) e
+    ∙ ap (λ y. ty_stand files (ty_mapped files y)) e
 
 declared-by : (files : Files) (d : DeclPath) (x : DeclLayer) → out-DeclPath d ≡ x → declared_stand files d ≡ decl_stands files (decl_mapped files x)
 unfolding decl_mapped
 declared-by files d x e =
     fold_out-DeclPath (Unit {0}) (ℕ → Option Stand) (Option Stand) (Unit {0}) arg_stand (decl_stands files) (ty_stand files) value_stand d
-        ∙ ap (λ y. decl_stands files (decl_mapped files y)) e
+    ∙ ap (λ y. decl_stands files (decl_mapped files y)) e
 
 -- the container of a declaration
 pub container-stand : (k l : Known) (a : Answers) (ty decl : Index) (ordinal : ℕ) (captures : List Arg) → Grows k l → IsInjective k → IsInjective l → AreAnswers k a
@@ -83,8 +83,8 @@ unfolding ty_mapped
 container-stand k l a ty decl ordinal captures g m n h e d =
     let same : decl_at l decl ≡ decl_at k decl = g.stays.decl decl d in
     ap (λ f. declared_stand f (decl_at l decl) ordinal) (files-same k l a g m n h)
-        ∙ (ap (λ x. declared_stand (files_at k a) x ordinal) same
-        ∙ sym (stand-by (files_at k a) (ty_at k ty) (layer.Container (decl_at k decl) ordinal captures) e))
+    ∙ (ap (λ x. declared_stand (files_at k a) x ordinal) same
+    ∙ sym (stand-by (files_at k a) (ty_at k ty) (layer.Container (decl_at k decl) ordinal captures) e))
 
 -- a declaration of a container
 pub named-stand : (k l : Known) (a : Answers) (decl container name : Index) (ordinal : ℕ) (s : Option Stand) → Grows k l → IsInjective k → IsInjective l → AreAnswers k a
@@ -95,8 +95,8 @@ unfolding decl_mapped
 named-stand k l a decl container name ordinal s g m n h e t is =
     let same : ty_at l container ≡ ty_at k container = g.stays.ty container t in
     let here : s ≡ stand_of (files_at k a) (ty_at k container) =
-        is ∙ (ap (λ f. stand_of f (ty_at l container)) (files-same k l a g m n h) ∙ ap (stand_of (files_at k a)) same) in
+    is ∙ (ap (λ f. stand_of f (ty_at l container)) (files-same k l a g m n h) ∙ ap (stand_of (files_at k a)) same) in
     ap (option_and_then (stand_named (bytes_at k name) ordinal)) here
-        ∙ sym (ap (λ f. f ordinal) (declared-by (files_at k a) (decl_at k decl) (layer.Named (ty_at k container) (bytes_at k name)) e))
+    ∙ sym (ap (λ f. f ordinal) (declared-by (files_at k a) (decl_at k decl) (layer.Named (ty_at k container) (bytes_at k name)) e))
 
 pub ruleset file_steps = (file_mapped, file_then, AreAnswers-grows)

@@ -25,7 +25,12 @@ pub(crate) struct Place {
 
 /// The container of an ordinal in a declaration of a container.
 #[tactic(auto, unfolding(zir_form::specs::Front::front_in))]
-fn container_in(front: &Front, container: ContainerRef, name: &[u8], ordinal: u32) -> Option<ContainerRef>
+fn container_in(
+    front: &Front,
+    container: ContainerRef,
+    name: &[u8],
+    ordinal: u32,
+) -> Option<ContainerRef>
     ensures { result ≡ option_and_then (λ core. container_of core container name.now ordinal) (front_in front.now).core }
 {
     match &front.zir {
