@@ -4,9 +4,9 @@ ghost use Rattle.type_trees.specs.Shapes.{of_bytes, of_value};
 ghost use Rattle.type_form.specs.declared.tree.Value.TheVariants as value;
 
 use crate::shape::{OfBytes, OfValue, of_bytes, of_value};
-use type_form::{Arg, DeclPath, Instance, Ty, Unit, Value};
 use sqlite_items::{Boxed, Items};
 use std::alloc::{AllocError, Global};
+use type_form::{Arg, DeclPath, Instance, Ty, Unit, Value};
 use zw_base::{Bytes, Seq};
 
 /// A copy of bytes.

@@ -2,9 +2,9 @@
 ghost use Rattle.std.specs.Prelude.{◌≡◌, IfOk};
 ghost use Rattle.type_trees.specs.Shapes.{of_bytes, of_value};
 
-use type_form::{Ty, Value};
 use sqlite_items::Boxed;
 use std::alloc::{AllocError, Global};
+use type_form::{Ty, Value};
 use zw_base::Bytes;
 
 /// A value of a type and bytes.
