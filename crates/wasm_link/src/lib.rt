@@ -21,6 +21,8 @@ mod names;
 mod operands;
 mod order;
 mod spelled;
+#[cfg(test)]
+mod tests;
 mod types;
 
 pub use fault::LinkFault;
