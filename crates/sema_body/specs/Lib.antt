@@ -1,0 +1,5 @@
+pub mod Readings
+pub mod Trees
+pub mod Meets
+pub mod Faults
+pub mod Bodies

@@ -1,0 +1,27 @@
+//! Analysis of forms: primitive names, whole numbers, coercion to a result type, `return`.
+//!
+//! The model: what a unit does is its program of questions, `elab` of `elab_form`. Here it is run:
+//! types, values and declarations are indices of an interner, core trees are lines of a file, and
+//! the typed body is made by an `AirBuilder`. A form's clause says how the run goes on from where it
+//! stands, for the trees that its indices denote.
+//! Nothing asks a question yet, and the call for a whole unit is not there; the forms are proved
+//! each by itself. Public call:
+//! `fit_value`. The crate stands on `elab_form`, `trace_log`, `air_form`, `type_keys` and the crates
+//! below these.
+#![tactic(auto)]
+
+mod asking;
+mod body;
+mod coercion;
+mod control;
+mod frame;
+mod halt;
+mod names;
+mod numbers;
+mod trees;
+mod work;
+
+pub use coercion::{Fit, fit_value};
+pub use frame::Frame;
+pub use halt::{Halt, Operand};
+pub use work::Work;
