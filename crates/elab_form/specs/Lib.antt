@@ -6,6 +6,7 @@ pub mod Coercion
 pub mod Names
 pub mod Numbers
 pub mod Control
+pub mod Code
 pub mod Elab
 pub mod Units
 pub mod Standing

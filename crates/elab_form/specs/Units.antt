@@ -20,12 +20,15 @@ use Rattle.type_form.specs.Tree.{TyLayer, ValueLayer, DeclLayer}
 use Rattle.type_form.specs.Spelling.{unit_text}
 use Rattle.air_form.specs.Typed.{TypedBody, statements_of}
 use Rattle.air_form.specs.Typed as typed
-use Rattle.question_runs.specs.Programs.{Prog, done, bind}
-use Rattle.elab_form.specs.Questions.{TextPart, head, whole, Question, Answer, tree, text, UnitValue, constant, body, UnitResult, good, failed, named}
+use Rattle.wasm_form.specs.declared.linked.FnCode.{FnCode}
+use Rattle.question_runs.specs.Programs.{Prog, done, ask, bind}
+use Rattle.question_runs.specs.Rounds.{Language}
+use Rattle.elab_form.specs.Questions.{TextPart, head, whole, Question, Answer, tree, given, text, result, UnitValue, constant, body, UnitResult, good, failed, named, answer_of, setting, same_unit}
 use Rattle.elab_form.specs.State.{Frame, Operand, known, run, start}
 use Rattle.elab_form.specs.Asking.{Out, gives, returns, breaks, continues, wrong_by, Elab, pure, seq, asking, referring, wrong, not_built, acts, evaluated}
 use Rattle.elab_form.specs.Places.{place_of, is_absent}
 use Rattle.elab_form.specs.Control.{is_never}
+use Rattle.elab_form.specs.Code.{body_code}
 use Rattle.elab_form.specs.Elab.{expression}
 
 -- ---- expressions that are evaluated at comptime
@@ -209,18 +212,7 @@ body_answer d _ = no_text (frame (whole d) d)
 abbrev pub body_of : Instance → Elab UnitValue
 body_of i = asking (text (whole i.decl)) (body_answer i.decl)
 
--- ---- units
-
--- Nothing leaves a unit.
-abbrev pub result_by : Out UnitValue → UnitResult
-result_by (gives st v) = good v
-result_by (returns st o) = failed None
-result_by (breaks st target o) = failed None
-result_by (continues st target) = failed None
-result_by (wrong_by d) = failed (Some d)
-
-abbrev pub concluded : Elab UnitValue → Prog Question Answer AnyUnit UnitResult
-concluded m = bind (m start) (λ out. done (result_by out))
+-- ---- what is shown at a declaration
 
 -- the declaration that a unit belongs to
 abbrev pub decl_of_ty : TyLayer → DeclPath
@@ -239,6 +231,34 @@ decl_of (unit.Comptime file number) = path.Comptime file number
 abbrev pub failed_with : AnyUnit → DiagCode → UnitResult
 failed_with u c = failed (Some (record { spot = named (decl_of u); code = c; text = [] }))
 
+-- ---- the unit of code
+
+-- the code of a typed body; a form without a template has no code yet
+abbrev pub code_by : AnyUnit → Option FnCode → UnitResult
+code_by u None = failed_with u code.NotBuilt
+code_by u (Some c) = good (UnitValue.code c)
+
+abbrev pub code_answer : AnyUnit → Answer → UnitResult
+code_answer u (given (body b)) = code_by u (body_code b)
+code_answer u _ = failed_with u code.NotBuilt
+
+-- The code of an instance asks for its typed body. What is wrong with it is shown at the function's name.
+abbrev pub code_of : Instance → Prog Question Answer AnyUnit UnitResult
+code_of i = ask (result (unit.Body i)) (λ a. done (code_answer (unit.Code i) a))
+
+-- ---- units
+
+-- Nothing leaves a unit.
+abbrev pub result_by : Out UnitValue → UnitResult
+result_by (gives st v) = good v
+result_by (returns st o) = failed None
+result_by (breaks st target o) = failed None
+result_by (continues st target) = failed None
+result_by (wrong_by d) = failed (Some d)
+
+abbrev pub concluded : Elab UnitValue → Prog Question Answer AnyUnit UnitResult
+concluded m = bind (m start) (λ out. done (result_by out))
+
 -- the longest spelling of a unit, in bytes
 unfoldable pub longest_spelling : ℕ
 longest_spelling = 4096
@@ -249,8 +269,27 @@ is_too_long u = nat_lt longest_spelling (length (unit_text u))
 abbrev pub program : AnyUnit → Prog Question Answer AnyUnit UnitResult
 program (unit.Decl d) = concluded (declaration d)
 program (unit.Body i) = concluded (body_of i)
+program (unit.Code i) = code_of i
 program u = done (failed_with u code.NotBuilt)
 
 -- What a unit does. One whose spelling is too long asks nothing.
 unfoldable pub elab : AnyUnit → Prog Question Answer AnyUnit UnitResult
 elab u = if is_too_long u then done (failed_with u code.NameTooLong) else program u
+
+-- ---- the language
+
+-- the unit whose result a question asks for
+abbrev pub unit_asked : Question → Option AnyUnit
+unit_asked (Question.result u) = Some u
+unit_asked _ = None
+
+-- The language, for all that holds of every language of questions.
+abbrev pub language : Language Question Answer AnyUnit UnitResult
+language = record {
+  setting = setting;
+  elab = elab;
+  unit_asked = unit_asked;
+  answer_of = answer_of;
+  failed = failed None;
+  same_unit = same_unit;
+}

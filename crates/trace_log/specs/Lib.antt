@@ -5,3 +5,4 @@ pub mod Traces
 pub mod Files
 pub mod Indices
 pub mod Snapshots
+pub mod Attempts

@@ -5,6 +5,7 @@
 
 mod answer;
 mod answers;
+mod attempt;
 mod laws;
 mod names;
 mod question;
@@ -17,6 +18,7 @@ mod trace;
 
 pub use answer::{Answer, TreeRef};
 pub use answers::Answers;
+pub use attempt::{Attempt, Outcome};
 pub use laws::{growing_keeps_traces, traces_recall_by_indices};
 pub use question::{Question, TextPart, UnitIndex};
 pub use result::{Diagnostic, Spot, UnitResult, UnitValue};
