@@ -1,18 +1,16 @@
 -- The index that stands for a tree is found among the pairs that are known.
-use Rattle.std.proofs.Common.{◌≡◌, ℕ, ◌==◌, Bool, true, false, Some, None, Option, IsSome, List, [], ◌∷◌, refl, sym, ap, ◌∙◌, subst, if◌then◌else◌}
+use Rattle.std.proofs.Common.{◌≡◌, ℕ, ◌==◌, Bool, true, false, Some, None, Option, List, [], ◌∷◌, refl, sym, ap, ◌∙◌, subst, if◌then◌else◌}
 use Rattle.std.specs.Option.{option_map, option_and_then}
 use Rattle.std.specs.Str.{bytes_eq}
 use Rattle.std.proofs.lemmas.Bool.{eqb-true}
 use Rattle.std.proofs.lemmas.Slice.Eq.{bytes_eq-Decides}
 use Rattle.type_form.specs.declared.index.Index.{Index}
-use Rattle.type_form.specs.declared.tree.Ty.{Ty}
-use Rattle.type_form.specs.declared.tree.DeclPath.{DeclPath}
 use Rattle.type_form.specs.declared.unit.Instance.{Instance}
 use Rattle.type_form.specs.declared.unit.Unit.{Unit as AnyUnit}
 use Rattle.type_form.specs.declared.unit.Unit.TheVariants as unit
 use Rattle.type_form.specs.Known.{Known, words_at, key_at, IsInjective}
 use Rattle.type_form.specs.Words.{key_of}
-use Rattle.type_form.specs.Denote.{Node, bytes_of, Reading, denoted, node_of, as_ty, as_decl, as_instance, as_list, ty_in, decl_in, instance_in, list_in, bytes_in}
+use Rattle.type_form.specs.Denote.{bytes_of, denoted, node_of, as_ty, as_decl, as_instance, as_list, ty_in, decl_in, instance_in, list_in, bytes_in}
 use Rattle.type_form.specs.Means.{IsTy, ty_at, IsDecl, decl_at, IsInstance, instance_at, IsBytes, bytes_at}
 use Rattle.type_form.proofs.Depth.{denoted-is}
 use Rattle.type_form.proofs.LayerLemmas.{ty_at-injective, decl_at-injective, instance_at-injective, bytes_at-injective}

@@ -8,3 +8,6 @@ pub mod IndexLemmas
 pub mod SnapshotLemmas
 pub mod StandLemmas
 pub mod ReplyLemmas
+pub mod GivenLemmas
+pub mod AttemptLemmas
+pub mod ChangeLemmas

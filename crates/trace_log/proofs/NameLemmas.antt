@@ -1,5 +1,5 @@
 -- Bytes among lists of numbers.
-use Rattle.std.proofs.Common.{◌≡◌, List, [], ◌++◌, sym, ◌∙◌, subst}
+use Rattle.std.proofs.Common.{◌≡◌, sym, subst}
 use Rattle.type_form.specs.declared.index.Index.{Index}
 use Rattle.type_form.specs.Known.{Known}
 use Rattle.type_form.specs.Means.{AreBytes, IsBytes, IsList, bytes_at, list_at}

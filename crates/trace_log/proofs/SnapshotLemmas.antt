@@ -1,24 +1,20 @@
 -- What a snapshot answers stays as more is known.
 use Rattle.std.proofs.Common.{◌≡◌, ℕ, Some, None, Option, List, refl, sym, ap, ◌∙◌, subst, ◌⊎◌, inl, inr}
 use Rattle.std.specs.Option.{option_map, option_and_then}
-use Rattle.zir_form.specs.declared.front.Front.{Front}
 use Rattle.zir_form.specs.Front.{front_in}
 use Rattle.type_form.specs.declared.index.Index.{Index}
 use Rattle.type_form.specs.declared.unit.Unit.{Unit as AnyUnit}
 use Rattle.type_form.specs.Known.{Known, IsInjective}
 use Rattle.type_form.specs.Means.{Grows, IsBytes, bytes_at}
-use Rattle.type_form.proofs.LayerLemmas.{bytes_at-injective}
 use Rattle.elab_form.specs.Questions as plain
 use Rattle.trace_log.specs.declared.answers.Answers.{Answers}
 use Rattle.trace_log.specs.declared.question.UnitIndex.{UnitIndex}
-use Rattle.trace_log.specs.declared.result.UnitResult.{UnitResult}
-use Rattle.trace_log.specs.Files.{Files, file_answer}
+use Rattle.trace_log.specs.Files.{file_answer}
 use Rattle.trace_log.specs.Indices.{bytes_index, unit_index}
-use Rattle.trace_log.specs.Readings.{IsUnit, IsUnitResult, unit_at, unit_result_at}
+use Rattle.trace_log.specs.Readings.{IsUnit, unit_at, unit_result_at}
 use Rattle.trace_log.specs.Snapshots.{AreAnswers, file_get, files_at, front_at, front_get, given_at, result_get, results_at}
 use Rattle.trace_log.proofs.Growing.{IsUnit-grows, unit-grows, IsUnitResult-grows, unit_result-grows}
 use Rattle.trace_log.proofs.IndexLemmas.{bytes_index-at, bytes_index-is, unit_index-at, unit_index-is}
-use Rattle.trace_log.proofs.Sameness.{unit_at-injective}
 
 -- a look-up by an index that may have come to be known since answers as before, where nothing stands at that index
 looked-up : {I F : Type 0} (f : I → Option F) (old new : Option I) → ((i : I) → old ≡ Some i → new ≡ Some i) → ((i : I) → new ≡ Some i → (f i ≡ None) ⊎ (old ≡ Some i))

@@ -1,7 +1,6 @@
 -- Where files and containers stand, by the indices of their paths and types.
 use Rattle.std.proofs.Common.{◌≡◌, ℕ, Some, None, Option, List, refl, sym, ap, ◌∙◌}
 use Rattle.std.specs.Option.{option_map, option_and_then}
-use Rattle.zir_form.specs.declared.front.Front.{Front}
 use Rattle.zir_form.specs.Front.{FileFront, front_in}
 use Rattle.type_form.specs.declared.index.Index.{Index}
 use Rattle.type_form.specs.Known.{Known, IsInjective}

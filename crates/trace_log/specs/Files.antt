@@ -1,5 +1,5 @@
 -- What files answer to those who ask for texts, names and exports.
-use Rattle.std.specs.Prelude.{ℕ, List, Option, None, Some}
+use Rattle.std.specs.Prelude.{ℕ, List, Option, None}
 use Rattle.std.specs.Option.{option_map, option_and_then}
 use Rattle.zir_form.specs.declared.zir.ContainerRef.{ContainerRef}
 use Rattle.zir_form.specs.declared.zir.NameRef.{NameRef}

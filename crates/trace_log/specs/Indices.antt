@@ -7,7 +7,7 @@ use Rattle.type_form.specs.declared.unit.Unit.{Unit as AnyUnit}
 use Rattle.type_form.specs.declared.unit.Unit.TheVariants as unit
 use Rattle.type_form.specs.Known.{Known}
 use Rattle.type_form.specs.Denote.{denoted, ty_in, decl_in, instance_in, bytes_in}
-use Rattle.elab_form.specs.Questions.{same_path, same_ty, same_unit}
+use Rattle.elab_form.specs.Questions.{same_unit}
 use Rattle.trace_log.specs.declared.question.UnitIndex.{UnitIndex}
 use Rattle.trace_log.specs.declared.question.UnitIndex.TheVariants as index
 

@@ -15,7 +15,10 @@ use Rattle.type_form.specs.Means.{IsBytes}
 use Rattle.elab_form.specs.Questions as plain
 use Rattle.trace_log.specs.declared.answers.Answers.{Answers}
 use Rattle.trace_log.specs.declared.question.UnitIndex.{UnitIndex}
+use Rattle.trace_log.specs.declared.answer.Answer.{Answer}
+use Rattle.trace_log.specs.declared.answer.Answer.TheVariants as answer
 use Rattle.trace_log.specs.declared.result.UnitResult.{UnitResult}
+use Rattle.trace_log.specs.declared.result.UnitResult.TheVariants as result
 use Rattle.trace_log.specs.declared.replies.Extent.{Extent}
 use Rattle.trace_log.specs.declared.replies.Extent.TheVariants as extent
 use Rattle.trace_log.specs.declared.stands.Place.{Place}
@@ -79,6 +82,11 @@ given_at k a (plain.text p) = Some (file_answer (files_at k a) (plain.text p))
 given_at k a (plain.name container name) = Some (file_answer (files_at k a) (plain.name container name))
 given_at k a (plain.import path) = Some (file_answer (files_at k a) (plain.import path))
 given_at k a (plain.result u) = option_map plain.answer_of (results_at k a u)
+
+-- a result, as an answer by indices
+abbrev pub answer_of : UnitResult → Answer
+answer_of (result.Good v) = answer.Given v
+answer_of (result.Failed d) = answer.Failure
 
 -- the indices of a snapshot denote what is wanted there
 pub record AreAnswers (k : Known) (a : Answers) : Type 0 where

@@ -27,3 +27,21 @@ pub enum Answer {
     /// To who asks for the result of a unit that failed. What it shows is no part of the answer.
     Failure,
 }
+
+impl Answer {
+    ghost use Rattle.std.specs.Prelude.{◌≡◌, IfOk};
+
+    /// The same answer once more; what is shared has one owner more.
+    pub fn share(&self) -> Result<Answer, AllocError>
+        ensures { IfOk result (λ a. a ≡ self.now) }
+    {
+        match self {
+            Answer::Tree(tree) => Ok(Answer::Tree(*tree)),
+            Answer::Declaration(found) => Ok(Answer::Declaration(*found)),
+            Answer::Exports(None) => Ok(Answer::Exports(None)),
+            Answer::Exports(Some(exports)) => Ok(Answer::Exports(Some(exports.share()?))),
+            Answer::Given(value) => Ok(Answer::Given(value.share()?)),
+            Answer::Failure => Ok(Answer::Failure),
+        }
+    }
+}
