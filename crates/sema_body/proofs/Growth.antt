@@ -62,11 +62,11 @@ module _ (k l : Known) (g : Grows k l) where
   IsOperand-grows s (operand.Known i) h = g.stays.is_value i h
   IsOperand-grows s (operand.Run t at) h = (g.stays.is_ty t h.0, h.1)
 
-  wanted-grows : (w : Option Index) → IsWanted k w → option_map (ty_at l) w ≡ option_map (ty_at k) w
+  pub wanted-grows : (w : Option Index) → IsWanted k w → option_map (ty_at l) w ≡ option_map (ty_at k) w
   wanted-grows None h = refl
   wanted-grows (Some i) h = ap Some (g.stays.ty i h)
 
-  IsWanted-grows : (w : Option Index) → IsWanted k w → IsWanted l w
+  pub IsWanted-grows : (w : Option Index) → IsWanted k w → IsWanted l w
   IsWanted-grows None h = tt
   IsWanted-grows (Some i) h = g.stays.is_ty i h
 

@@ -5,3 +5,6 @@ pub mod TreeLemmas
 pub mod FitLemmas
 pub mod BodyLemmas
 pub mod ControlLemmas
+pub mod AskLemmas
+pub mod ApartLemmas
+pub mod FormLemmas

@@ -16,3 +16,12 @@ Reads-then {full = full} r i = record {
 -- calls that read
 pub Reads-alone : {S H : Type 0} {known : S → Known} {home : S → H} {fulls : S → ℕ} {a b : S} → Reads known home fulls a b → Interns known home fulls a b false
 Reads-alone r = record { grows = r.grows; same_home = r.same_home; counts = r.same_fulls }
+
+-- calls that intern, and then others
+pub Interns-then : {S H : Type 0} {known : S → Known} {home : S → H} {fulls : S → ℕ} {a b c : S} {full : Bool}
+    → Interns known home fulls a b false → Interns known home fulls b c full → Interns known home fulls a c full
+Interns-then {full = full} i j = record {
+  grows = Grows-trans _ _ _ i.grows j.grows;
+  same_home = j.same_home ∙ i.same_home;
+  counts = j.counts ∙ ap (count_after full) i.counts;
+}

@@ -1,10 +1,13 @@
 -- How calls of analysis meet what elaboration gives.
-use Rattle.std.specs.Prelude.{◌≡◌, ◌<◌, length, Bool, true, false, [], ◌∷◌, ◌++◌, map, All, Option, Some, None, Result, Ok, Err}
+use Rattle.std.specs.Prelude.{◌≡◌, ◌<◌, List, length, Bool, true, false, [], ◌∷◌, ◌++◌, map, All, Option, Some, None, Result, Ok, Err}
 use Rattle.std.specs.Option.{option_map}
 use Rattle.type_form.specs.declared.index.Index.{Index}
+use Rattle.type_form.specs.declared.tree.Ty.{Ty}
 use Rattle.type_form.specs.Known.{Known, IsInjective}
 use Rattle.type_form.specs.Means.{IsTy, ty_at, IsValue, value_at}
-use Rattle.air_form.specs.Nodes.{AirState, IsBuilt, IsNode}
+use Rattle.air_form.specs.declared.node.AirRef.{AirRef}
+use Rattle.air_form.specs.Nodes.{AirState, AreBelow, IsBuilt, IsNode}
+use Rattle.air_form.specs.Typed.{Statement}
 use Rattle.air_form.specs.Denote.{air_at, statement_of}
 use Rattle.question_runs.specs.Runs.{ends, stops, fails, behind, recall, asked}
 use Rattle.elab_form.specs.Questions as plain
@@ -107,6 +110,21 @@ StandsBy k cx s _ = Stands k cx s
 pub record Meets {C A : Type 0} (k : Known) (cx : Answers) (s : Work) (Is : C → Type 0) (at : C → A) (r : Result C Halt) (run : Course A) : Type 0 where
   pub stands : StandsBy k cx s r
   pub is : MeetsBy k cx s Is at r run
+
+-- a call that gives what an expression gives
+abbrev pub MeetsOperand : Known → Answers → Work → Result Operand Halt → Course AnyOperand → Type 0
+MeetsOperand k cx s r run = Meets k cx s (IsOperand k s) (operand_at k s) r run
+
+-- a call that gives an expression with the statements that belong to it
+abbrev pub IsApart : Known → Work → List AirRef × Operand → Type 0
+IsApart k s (rs, o) = AreBelow (length s.body.nodes) rs × IsOperand k s o
+
+abbrev pub apart_at : Known → Work → List AirRef × Operand → List Statement × AnyOperand
+apart_at k s (rs, o) = (map (statement_of (air_at k s.body.nodes)) rs, operand_at k s o)
+
+-- a type that is asked for
+abbrev pub want_at : Known → Option Index → Option Ty
+want_at k want = option_map (ty_at k) want
 
 -- the answer is that a shard is full
 abbrev pub halts_full : {C : Type 0} → Result C Halt → Bool

@@ -50,6 +50,17 @@ pub(crate) fn is_absent(cx: &Answers, parent: TreeRef, line: u32) -> bool
     }
 }
 
+/// The place of a child.
+#[tactic(auto, unfolding(zir_form::specs::Lines::over_cores))]
+pub(crate) fn child_place(cx: &Answers, parent: TreeRef, line: u32) -> u32
+    ensures { result ≡ plain.place_of (child_at cx.now parent line) }
+{
+    match child(cx, parent, line) {
+        Some(form) => place_of(form),
+        None => 0,
+    }
+}
+
 /// The place of a child; where it is left out, that of what lacks it.
 #[tactic(auto, unfolding(zir_form::specs::Lines::over_cores))]
 pub(crate) fn place_behind(cx: &Answers, parent: TreeRef, line: u32, place: u32) -> u32
