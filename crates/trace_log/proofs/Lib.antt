@@ -11,3 +11,4 @@ pub mod ReplyLemmas
 pub mod GivenLemmas
 pub mod AttemptLemmas
 pub mod ChangeLemmas
+pub mod PlaceLemmas

@@ -6,3 +6,4 @@ pub mod Files
 pub mod Indices
 pub mod Snapshots
 pub mod Attempts
+pub mod Places

@@ -8,6 +8,7 @@ mod answers;
 mod attempt;
 mod laws;
 mod names;
+mod places;
 mod question;
 mod replies;
 mod result;

@@ -34,7 +34,7 @@ pub(crate) enum Extent {
 }
 
 /// The part of a declaration that is asked for.
-fn part_of(extent: Extent, container: ContainerRef, name: Vec<u8>) -> Part
+pub(crate) fn part_of(extent: Extent, container: ContainerRef, name: Vec<u8>) -> Part
     ensures { result ≡ declared_part extent container name.items }
 {
     let name = Bytes::of(name);
