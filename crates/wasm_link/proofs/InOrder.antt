@@ -1,9 +1,9 @@
 -- A list that is sorted is the list in that order, however it was sorted.
 use Rattle.std.proofs.Common.{◌≡◌, ◌⊎◌, inl, inr, ℕ, zero, suc, ◌+◌, ◌<◌, Bool, true, false, cond, if◌then◌else◌, List, [], ◌∷◌, map, length, refl, sym, ap, ◌∙◌, subst, arith, get_or}
-use Rattle.std.specs.Prelude.{All, Contains}
-use Rattle.std.specs.List.{sum_by, IsDistinct, AllByRecursion}
-use Rattle.std.specs.List.Sorted.{IsPermutation, IsSorted, IsSortedBy}
-use Rattle.std.specs.Cmp.{IsTotalOrder}
+use Rattle.std.specs.Prelude.{All, Contains, not, ◌&&◌}
+use Rattle.std.specs.List.{sum_by, filter, IsDistinct, AllByRecursion}
+use Rattle.std.specs.List.Sorted.{IsPermutation, IsSorted, IsSortedBy, IsStable, ties}
+use Rattle.std.specs.Cmp.{IsTotalOrder, IsStrictWeakOrder}
 use Rattle.std.specs.declared.cmp.Ordering.{Ordering}
 use Rattle.std.specs.declared.cmp.Ordering.TheVariants.{Less, Equal, Greater}
 use Rattle.std.specs.Ordering.{is_lt, on, ordering_reverse}
@@ -166,6 +166,87 @@ sorted_in_order cmp o xs ys moved sorted told =
     one_rising cmp o (Contains xs) told.apart ys (in_order cmp xs) (rising_sorted cmp o ys sorted) (rising_ordered cmp o xs)
     (λ f. sum_by-IsPermutation f xs ys moved ∙ sym (sum_ordered cmp f xs))
     (All-permutation (Contains xs) xs ys moved (All-contains_itself xs)) (all_ordered cmp (Contains xs) xs (All-contains_itself xs))
+
+-- ---- where elements are equal in the order
+
+abbrev tie : {T : Type 0} → (T → T → Ordering) → T → T → Bool
+tie cmp = ties (λ a b. is_lt (cmp a b))
+
+differs : true ≡ false → ⊥
+differs e = cc
+
+tie_parts : (a b : Bool) → (not a && not b) ≡ true → (a ≡ false) × (b ≡ false)
+tie_parts true b h = cc
+tie_parts false true h = cc
+tie_parts false false h = (refl, refl)
+
+-- what ties with both of two elements makes them tie
+no_third : {T : Type 0} (cmp : T → T → Ordering) → IsTotalOrder cmp → (x y z : T) → is_lt (cmp y x) ≡ true → tie cmp z x ≡ true → tie cmp z y ≡ true → ⊥
+no_third cmp o x y z h p q =
+    let order : IsStrictWeakOrder (λ a b. is_lt (cmp a b)) = ranks_by o (λ a. a) in
+    let zy = tie_parts (is_lt (cmp z y)) (is_lt (cmp y z)) q in
+    let zx = tie_parts (is_lt (cmp z x)) (is_lt (cmp x z)) p in
+    differs (sym h ∙ order.chain y z x zy.1 zx.0)
+
+both_kept : {T : Type 0} (x y : T) (l : List T) (a b : Bool) → (a ≡ true → b ≡ true → ⊥) → cond b (y ∷ cond a (x ∷ l) l) (cond a (x ∷ l) l) ≡ cond a (x ∷ cond b (y ∷ l) l) (cond b (y ∷ l) l)
+both_kept x y l true true h = absurd (h refl refl)
+both_kept x y l true false h = refl
+both_kept x y l false true h = refl
+both_kept x y l false false h = refl
+
+kept_inserted : {T : Type 0} (cmp : T → T → Ordering) → IsTotalOrder cmp → (z x : T) (ys : List T) → filter (tie cmp z) (insert_by cmp x ys) ≡ filter (tie cmp z) (x ∷ ys)
+unfolding insert_by
+kept_inserted cmp o z x [] = refl
+kept_inserted cmp o z x (y ∷ ys) = by_test (is_lt (cmp y x)) refl (kept_inserted cmp o z x ys)
+  where
+    by_test : (b : Bool) → is_lt (cmp y x) ≡ b → filter (tie cmp z) (insert_by cmp x ys) ≡ filter (tie cmp z) (x ∷ ys)
+        → filter (tie cmp z) (if b then y ∷ insert_by cmp x ys else x ∷ y ∷ ys) ≡ filter (tie cmp z) (x ∷ y ∷ ys)
+    by_test true h rest =
+        ap (λ l. cond (tie cmp z y) (y ∷ l) l) rest
+        ∙ both_kept x y (filter (tie cmp z) ys) (tie cmp z x) (tie cmp z y) (no_third cmp o x y z h)
+    by_test false h rest = refl
+
+kept_ordered : {T : Type 0} (cmp : T → T → Ordering) → IsTotalOrder cmp → (z : T) (xs : List T) → filter (tie cmp z) (in_order cmp xs) ≡ filter (tie cmp z) xs
+unfolding in_order
+kept_ordered cmp o z [] = refl
+kept_ordered cmp o z (x ∷ xs) = kept_inserted cmp o z x (in_order cmp xs) ∙ ap (λ l. cond (tie cmp z x) (x ∷ l) l) (kept_ordered cmp o z xs)
+
+head_kept : {T : Type 0} (x y : T) (a b : Bool) (xs ys : List T) → a ≡ true → b ≡ true → cond a (x ∷ xs) xs ≡ cond b (y ∷ ys) ys → (x ≡ y) × (xs ≡ ys)
+head_kept x y true true xs ys p q e = (cc, cc)
+head_kept x y true false xs ys p q e = cc
+head_kept x y false b xs ys p q e = cc
+
+rest_kept : {T : Type 0} (x : T) (b : Bool) (xs ys : List T) → cond b (x ∷ xs) xs ≡ cond b (x ∷ ys) ys → xs ≡ ys
+rest_kept x true xs ys e = cc
+rest_kept x false xs ys e = e
+
+tied : (a b : Bool) → a ≡ false → b ≡ false → (not a && not b) ≡ true
+tied a b p q = rw p (rw q refl)
+
+-- rising lists of the same elements, of which those that tie stand in the same order, are one list
+one_stable : {T : Type 0} (cmp : T → T → Ordering) → IsTotalOrder cmp → (xs ys : List T) → Rising cmp xs → Rising cmp ys
+    → ((f : T → ℕ) → sum_by f xs ≡ sum_by f ys) → ((z : T) → filter (tie cmp z) xs ≡ filter (tie cmp z) ys) → xs ≡ ys
+one_stable cmp o [] [] rx ry same kept = refl
+one_stable cmp o [] (y ∷ ys) rx ry same kept = absurd (omega (arith, sum_by-cons (λ _. 1) y ys, same (λ _. 1)))
+one_stable cmp o (x ∷ xs) [] rx ry same kept = absurd (omega (arith, sum_by-cons (λ _. 1) x xs, same (λ _. 1)))
+one_stable cmp o (x ∷ xs) (y ∷ ys) rx ry same kept =
+    let xy = no_less_head cmp o x y xs ys ry same in
+    let yx = no_less_head cmp o y x ys xs rx (λ f. sym (same f)) in
+    let itself : is_lt (cmp x x) ≡ false = ap is_lt (tied_itself o x) in
+    let heads = head_kept x y (tie cmp x x) (tie cmp x y) (filter (tie cmp x) xs) (filter (tie cmp x) ys) (tied _ _ itself itself) (tied _ _ xy yx) (kept x) in
+    let e : x ≡ y = heads.0 in
+    let rest : xs ≡ ys =
+    one_stable cmp o xs ys rx.1 ry.1 (λ f. omega (arith, sum_by-cons f x xs, sum_by-cons f y ys, same f, ap f e))
+    (λ z. rest_kept x (tie cmp z x) (filter (tie cmp z) xs) (filter (tie cmp z) ys)
+    (kept z ∙ ap (λ w. cond (tie cmp z w) (w ∷ filter (tie cmp z) ys) (filter (tie cmp z) ys)) (sym e))) in
+    cc
+
+-- a list that is sorted so that elements that tie keep their order is the list in order
+pub stable_in_order : {T : Type 0} (cmp : T → T → Ordering) → IsTotalOrder cmp → (xs ys : List T) → IsPermutation xs ys → IsSorted cmp ys → IsStable cmp xs ys → ys ≡ in_order cmp xs
+stable_in_order cmp o xs ys moved sorted stable =
+    one_stable cmp o ys (in_order cmp xs) (rising_sorted cmp o ys sorted) (rising_ordered cmp o xs)
+    (λ f. sum_by-IsPermutation f xs ys moved ∙ sym (sum_ordered cmp f xs))
+    (λ z. stable z ∙ sym (kept_ordered cmp o z xs))
 
 -- the order of the elements before doesn't matter
 pub in_order-permutation : {T : Type 0} (cmp : T → T → Ordering) → IsTotalOrder cmp → (xs ys : List T) → IsPermutation xs ys → AreTold cmp xs → in_order cmp ys ≡ in_order cmp xs

@@ -1,12 +1,9 @@
 // Linking: the module, or why there is none.
 ghost use Rattle.std.specs.Prelude.{◌≡◌, ◌∷◌, [], IfOk, length, map};
-ghost use Rattle.std.specs.List.{IsDistinct};
-ghost use Rattle.std.specs.Str.{bytes_eq};
 ghost use Rattle.wasm_form.specs.Binary.{module_bytes};
 ghost use Rattle.wasm_link.specs.Imports.{imported};
 ghost use Rattle.wasm_link.specs.Laid.{IsLayout};
 ghost use Rattle.wasm_link.specs.Link as spec;
-ghost use Rattle.wasm_link.specs.Order.{function_spellings, item_spellings};
 
 use crate::bytes::data_bytes;
 use crate::code::codes_of;
@@ -247,11 +244,9 @@ pub fn link(
     mut items: Vec<Item>,
     errors: &[Bytes],
 ) -> Result<Bytes, LinkFault>
-    requires functions { IsDistinct bytes_eq (function_spellings functions.items) }
-    requires items { IsDistinct bytes_eq (item_spellings items.items) }
     ensures { spec.Answers result (spec.linked functions.items items.items errors.now) }
 {
-    sort_functions(&mut functions);
-    sort_items(&mut items);
+    sort_functions(&mut functions)?;
+    sort_items(&mut items)?;
     link_sorted(alloc, functions, items, errors)
 }

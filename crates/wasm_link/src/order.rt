@@ -1,26 +1,27 @@
 // Functions, items, imports and exports in their order.
-ghost use Rattle.std.specs.Prelude.{◌≡◌};
+ghost use Rattle.std.specs.Prelude.{◌≡◌, OnOk};
 ghost use Rattle.std.specs.List.{IsDistinct};
 ghost use Rattle.std.specs.Str.{bytes_eq};
-ghost use Rattle.wasm_link.specs.Order.{export_cmp, extern_cmp, extern_spellings, function_cmp, function_spellings, in_order, item_cmp, item_spellings};
+ghost use Rattle.wasm_link.specs.Order.{export_cmp, extern_cmp, extern_spellings, function_cmp, in_order, item_cmp};
 
 use crate::named::{Function, Item, NamedExport};
+use std::alloc::AllocError;
 use wasm_form::ExternFunction;
 
-/// Sorts functions by spelling.
-pub fn sort_functions(functions: &mut Vec<Function>)
-    requires { IsDistinct bytes_eq (function_spellings functions.old.items) }
-    ensures { functions.new.items ≡ in_order function_cmp functions.old.items }
+/// Sorts functions by spelling; those with one spelling keep their order.
+pub fn sort_functions(functions: &mut Vec<Function>) -> Result<(), AllocError>
+    ensures { OnOk result (functions.new.items ≡ in_order function_cmp functions.old.items) }
 {
-    functions.sort_unstable_by(|a, b| a.spelling.as_slice().cmp(b.spelling.as_slice()));
+    functions.sort_by(|a, b| a.spelling.as_slice().cmp(b.spelling.as_slice()))?;
+    Ok(())
 }
 
-/// Sorts data items by spelling.
-pub fn sort_items(items: &mut Vec<Item>)
-    requires { IsDistinct bytes_eq (item_spellings items.old.items) }
-    ensures { items.new.items ≡ in_order item_cmp items.old.items }
+/// Sorts data items by spelling; those with one spelling keep their order.
+pub fn sort_items(items: &mut Vec<Item>) -> Result<(), AllocError>
+    ensures { OnOk result (items.new.items ≡ in_order item_cmp items.old.items) }
 {
-    items.sort_unstable_by(|a, b| a.spelling.as_slice().cmp(b.spelling.as_slice()));
+    items.sort_by(|a, b| a.spelling.as_slice().cmp(b.spelling.as_slice()))?;
+    Ok(())
 }
 
 /// Sorts functions of the host's by module, name and spelling.

@@ -1,11 +1,5 @@
 // Modules that were put together by hand from the standard, and valid ones by `wasm2wat`.
-ghost use Rattle.std.specs.Prelude.{◌≡◌, true, IfOk, map};
-ghost use Rattle.std.specs.List.{IsDistinct};
-ghost use Rattle.std.specs.Str.{bytes_eq};
-ghost use Rattle.wasm_link.specs.Order.{function_spellings};
 
-use crate::names::Names;
-use crate::spelled::Spelled;
 use crate::{Function, Item, LinkFault, Place, link};
 use std::alloc::{AllocError, Global as Heap};
 use std::test::Fail;
@@ -179,50 +173,6 @@ fn data(alloc: Heap) -> Result<Vec<Item>, Fail> {
     Ok(vec![in alloc; e, d]?)
 }
 
-/// Whether no spelling stands twice.
-#[tactic(auto, using(crate::proofs::DistinctLemmas::distinct_with))]
-fn are_distinct<T: Spelled>(alloc: Heap, values: &[T]) -> Result<bool, AllocError>
-    ensures { IfOk result (λ d. d ≡ true → IsDistinct bytes_eq (map T.spelling values.now)) }
-{
-    let mut names = Names::new(alloc);
-    for value in values {
-        let spelling = value.spelling_bytes();
-        if names.find(spelling) < names.len() {
-            return Ok(false);
-        }
-        names = names.with(alloc, spelling)?;
-    }
-    Ok(true)
-}
-
-/// Links what has distinct spellings; no test wants the answer for others.
-fn linked(
-    alloc: Heap,
-    functions: Vec<Function>,
-    items: Vec<Item>,
-    errors: &[Bytes],
-) -> Result<Result<Bytes, LinkFault>, Fail> {
-    if !are_distinct(alloc, functions.as_slice())? {
-        return Ok(Err(LinkFault::OutOfMemory));
-    }
-    linked_with(alloc, functions, items, errors)
-}
-
-/// Links functions that have distinct spellings with items.
-fn linked_with(
-    alloc: Heap,
-    functions: Vec<Function>,
-    items: Vec<Item>,
-    errors: &[Bytes],
-) -> Result<Result<Bytes, LinkFault>, Fail>
-    requires { IsDistinct bytes_eq (function_spellings functions.items) }
-{
-    if !are_distinct(alloc, items.as_slice())? {
-        return Ok(Err(LinkFault::OutOfMemory));
-    }
-    Ok(link(alloc, functions, items, errors))
-}
-
 /// The name that stands twice, and its functions.
 fn double(answer: Result<Bytes, LinkFault>) -> Option<(Bytes, Seq<Place>)> {
     match answer {
@@ -254,7 +204,7 @@ fn links_known_modules(rt: HostRuntime) -> Result<(), Fail> {
         (both, data(alloc)?, FULL),
     ];
     for (functions, items, wanted) in cases {
-        match linked(alloc, functions, items, &errors)? {
+        match link(alloc, functions, items, &errors) {
             Ok(module) => assert_eq!(rt; module.as_slice(), wanted),
             Err(_) => assert!(rt; false),
         }
@@ -276,7 +226,7 @@ fn names_the_least_double_name(rt: HostRuntime) -> Result<(), Fail> {
     for (spelling, offset, name) in names {
         functions.push(plain(alloc, spelling, offset, name)?)?;
     }
-    match double(linked(alloc, functions, Vec::new(alloc), &[])?) {
+    match double(link(alloc, functions, Vec::new(alloc), &[])) {
         Some((name, places)) => {
             assert_eq!(rt; name.as_slice(), b"x".as_slice());
             let offsets: Vec<u32> = places.as_slice().iter().map(|p| p.offset).collect(alloc)?;
@@ -285,7 +235,7 @@ fn names_the_least_double_name(rt: HostRuntime) -> Result<(), Fail> {
         None => assert!(rt; false),
     }
     let taken = vec![in alloc; plain(alloc, b"a", 1, b"memory")?]?;
-    match double(linked(alloc, taken, Vec::new(alloc), &[])?) {
+    match double(link(alloc, taken, Vec::new(alloc), &[])) {
         Some((name, places)) => {
             assert_eq!(rt; name.as_slice(), b"memory".as_slice());
             assert_eq!(rt; places.len(), 1);
@@ -303,7 +253,7 @@ fn refuses_an_item_that_is_too_large(rt: HostRuntime) -> Result<(), Fail> {
         item: DataItem::TooLarge,
     };
     let items = vec![in alloc; item]?;
-    let answer = linked(alloc, Vec::new(alloc), items, &[])?;
+    let answer = link(alloc, Vec::new(alloc), items, &[]);
     let refused = matches!(&answer, Err(LinkFault::DataTooLarge));
     assert!(rt; refused);
     Ok(())

@@ -7,5 +7,5 @@ pub returns : goal.returns
 unfolding linked
 returns c =
     let errors = c.args.errors.now in
-    subst (λ fs. Answers c.link_sorted.result (link_sorted fs (in_order item_cmp c.args.items.items) errors)) c.sort_functions.ensures
-    (subst (λ is. Answers c.link_sorted.result (link_sorted c.sort_functions.new.functions.items is errors)) c.sort_items.ensures c.link_sorted.ensures)
+    subst (λ fs. Answers c.link_sorted.result (link_sorted fs (in_order item_cmp c.args.items.items) errors)) c.in_ok-sort_functions.ensures
+    (subst (λ is. Answers c.link_sorted.result (link_sorted c.sort_functions.new.functions.items is errors)) c.in_ok-sort_items.ensures c.link_sorted.ensures)
