@@ -1,6 +1,7 @@
-// Values by what they are made of: a type and bytes, or a type and another value.
+// Types and values by what they are made of: a type made of another one; a value made of a type and
+// bytes, or of a type and another value.
 ghost use Rattle.std.specs.Prelude.{◌≡◌, IfOk};
-ghost use Rattle.type_trees.specs.Shapes.{of_bytes, of_value};
+ghost use Rattle.type_trees.specs.Shapes.{of_bytes, of_child, of_value};
 
 use sqlite_items::Boxed;
 use std::alloc::{AllocError, Global};
@@ -65,5 +66,34 @@ pub fn of_value(alloc: Global, kind: OfValue, ty: Ty, value: Value) -> Result<Va
             low,
             high,
         },
+    })
+}
+
+/// A type that is made of another one.
+#[derive(Clone, Copy, Debug, PartialEq, Eq)]
+pub enum OfChild {
+    /// `*T`, `*const T`.
+    Pointer { is_const: bool },
+    /// `[]T`, `[]const T`.
+    Slice { is_const: bool },
+    /// `[N]T`.
+    Array { length: u64 },
+    /// `?T`.
+    Optional,
+    /// The own enum of a union.
+    UnionTag,
+}
+
+/// The type of this kind.
+pub fn of_child(alloc: Global, kind: OfChild, ty: Ty) -> Result<Ty, AllocError>
+    ensures { IfOk result (λ t. t ≡ of_child kind ty) }
+{
+    let child = Boxed::new(alloc, ty)?;
+    Ok(match kind {
+        OfChild::Pointer { is_const } => Ty::Pointer { is_const, child },
+        OfChild::Slice { is_const } => Ty::Slice { is_const, child },
+        OfChild::Array { length } => Ty::Array { length, child },
+        OfChild::Optional => Ty::Optional(child),
+        OfChild::UnionTag => Ty::UnionTag(child),
     })
 }
