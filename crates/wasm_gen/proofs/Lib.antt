@@ -1,0 +1,5 @@
+pub mod Numbers
+pub mod Nodes
+pub mod Steps
+pub mod Runs
+pub mod Growing
