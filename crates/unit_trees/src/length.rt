@@ -22,11 +22,7 @@ fn is_long(unit: &Unit) -> bool
 }
 
 /// Whether the spelling of a unit has more than 4,096 bytes: such a unit asks nothing.
-pub fn is_too_long<P: Keys>(
-    alloc: Global,
-    unit: UnitIndex,
-    p: &mut P,
-) -> Result<bool, AllocError>
+pub fn is_too_long<P: Keys>(alloc: Global, unit: UnitIndex, p: &mut P) -> Result<bool, AllocError>
     requires known { IsUnit (P.known p.old) unit }
     requires one { IsInjective (P.known p.old) }
     ensures reads { Reads P.known P.home P.fulls p.old p.new }

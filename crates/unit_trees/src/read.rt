@@ -10,11 +10,7 @@ use type_form::{Keys, Unit};
 use type_trees::{read_bytes, read_decl, read_instance, read_ty};
 
 /// The unit that indices denote.
-pub fn read_unit<P: Keys>(
-    alloc: Global,
-    unit: UnitIndex,
-    p: &mut P,
-) -> Result<Unit, AllocError>
+pub fn read_unit<P: Keys>(alloc: Global, unit: UnitIndex, p: &mut P) -> Result<Unit, AllocError>
     requires known { IsUnit (P.known p.old) unit }
     requires one { IsInjective (P.known p.old) }
     ensures reads { Reads P.known P.home P.fulls p.old p.new }

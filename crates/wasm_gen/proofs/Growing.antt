@@ -1,10 +1,10 @@
 -- Attempts of code as an interner grows.
-use Rattle.std.proofs.Common.{◌≡◌, Bool, ap, sym, ◌∙◌, subst}
+use Rattle.std.proofs.Common.{◌≡◌, Bool, ap, ◌∙◌, subst, Result, Ok, Err}
+use Rattle.std.specs.Prelude.{IfOk}
 use Rattle.type_form.specs.declared.index.Index.{Index}
 use Rattle.type_form.specs.declared.unit.Unit.TheVariants as unit
 use Rattle.type_form.specs.Known.{Known, IsInjective}
 use Rattle.type_form.specs.Means.{Grows, IsInstance, instance_at}
-use Rattle.type_form.proofs.MeansLemmas.{Grows-trans}
 use Rattle.elab_form.specs.Units as plain
 use Rattle.trace_log.specs.declared.answers.Answers.{Answers}
 use Rattle.trace_log.specs.declared.attempt.Attempt.{Attempt}
@@ -23,3 +23,8 @@ attempt-grows k l m a attempt i g h one two w there is =
     let same : unit_run l a (unit.Code (instance_at l i)) ≡ unit_run k a (unit.Code (instance_at k i)) =
     ap (λ x. unit_run l a (unit.Code x)) (g.stays.instance i there) ∙ unit_run-grow k l a (unit.Code (instance_at k i)) g one two w in
     IsAttempt-grows l m a attempt (unit_run k a (unit.Code (instance_at k i))) h (subst (IsAttempt l a attempt) same is)
+
+-- where there is one
+pub if-ok : {A E : Type 0} (r : Result A E) (P Q : A → Type 0) → ((a : A) → P a → Q a) → IfOk r P → IfOk r Q
+if-ok (Ok a) P Q f h = f a h
+if-ok (Err e) P Q f h = tt
