@@ -8,3 +8,8 @@ pub mod ControlLemmas
 pub mod AskLemmas
 pub mod ApartLemmas
 pub mod FormLemmas
+pub mod UnitLemmas
+pub mod SpelledLemmas
+pub mod DeclareLemmas
+pub mod FunctionLemmas
+pub mod AttemptLemmas

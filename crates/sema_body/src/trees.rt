@@ -27,6 +27,17 @@ pub(crate) fn form_of(cx: &Answers, tree: TreeRef) -> Option<&Form>
     cx.form(tree)
 }
 
+/// The place of a tree.
+#[tactic(auto, unfolding(zir_form::specs::Lines::over_cores))]
+pub(crate) fn tree_place(cx: &Answers, tree: TreeRef) -> u32
+    ensures { result ≡ plain.place_of (tree_at cx.now tree) }
+{
+    match form_of(cx, tree) {
+        Some(form) => place_of(form),
+        None => 0,
+    }
+}
+
 /// The form of a child of a tree: a child that is no earlier line is missing.
 #[tactic(auto, using(crate::proofs::TreeLemmas::earlier, crate::proofs::TreeLemmas::no_earlier))]
 pub(crate) fn child(cx: &Answers, parent: TreeRef, line: u32) -> Option<&Form>
