@@ -1,0 +1,9 @@
+pub mod UnitSteps
+pub mod RoundEnd
+pub mod IndexSteps
+pub mod MetLemmas
+pub mod ResultLemmas
+pub mod NumberLemmas
+pub mod InRound
+pub mod RoundDone
+pub mod LevelSteps
