@@ -112,6 +112,11 @@ is_noreturn_in _ = false
 unfoldable pub is_noreturn : Ty → Bool
 is_noreturn t = is_noreturn_in (out-Ty t)
 
+-- the type that has one value, which says nothing
+abbrev pub is_void : TyLayer → Bool
+is_void (layer.Ty::Simple simple.Void) = true
+is_void _ = false
+
 abbrev pub fit_at : Frame → (place : ℕ) → Fit → Elab Operand
 fit_at f place (fits v) = pure (known v)
 fit_at f place no_coercion = wrong f place code.TypesDoNotFit

@@ -1,23 +1,25 @@
 -- Blocks, and what leaves a function (Zig Language Reference 0.14, "Blocks", "Functions").
 use Rattle.std.specs.Prelude.{ℕ, Bool, true, false, List, [], ◌∷◌, ◌++◌, Option, Some, None, if◌then◌else◌}
+use Rattle.zw_base.specs.declared.diag.DiagCode.{DiagCode}
+use Rattle.zw_base.specs.declared.diag.DiagCode.TheVariants as code
 use Rattle.zir_form.specs.Core.{Core, Cores}
 use Rattle.zir_form.specs.Core as core
 use Rattle.type_form.specs.declared.tree.Ty.{Ty, out-Ty}
 use Rattle.type_form.specs.declared.tree.Ty.TheVariants as ty
-use Rattle.type_form.specs.declared.tree.Value.{Value}
+use Rattle.type_form.specs.declared.tree.Value.{Value, out-Value}
 use Rattle.type_form.specs.declared.tree.Value.TheVariants as value
 use Rattle.type_form.specs.declared.tree.Arg.TheOpen as layer
 use Rattle.type_form.specs.declared.tree.SimpleTy.{SimpleTy}
 use Rattle.type_form.specs.declared.tree.SimpleTy.TheVariants as simple
 use Rattle.type_form.specs.declared.tree.SimpleValue.TheVariants as word
-use Rattle.type_form.specs.Tree.{TyLayer}
+use Rattle.type_form.specs.Tree.{TyLayer, ValueLayer}
 use Rattle.air_form.specs.Typed.{Statement, Scalar, Scalars, statements_of}
 use Rattle.air_form.specs.Typed as typed
 use Rattle.air_form.specs.Denote.{scalar_air}
 use Rattle.elab_form.specs.State.{Frame, Operand, known, run}
-use Rattle.elab_form.specs.Asking.{returns, Elab, pure, seq, not_built, acts}
+use Rattle.elab_form.specs.Asking.{returns, Elab, pure, seq, wrong, not_built, acts}
 use Rattle.elab_form.specs.Places.{is_absent}
-use Rattle.elab_form.specs.Coercion.{is_noreturn}
+use Rattle.elab_form.specs.Coercion.{is_noreturn, is_void}
 use Rattle.question_runs.specs.Programs.{done}
 
 -- ---- types by how a body holds their values
@@ -102,6 +104,33 @@ is_never (run t e) = is_noreturn t
 -- statements behind one: they are dropped where it never ends
 unfoldable pub behind_statement : Elab Operand → Operand → Elab Operand
 behind_statement rest o = if is_never o then pure o else rest
+
+-- ---- statements whose value is dropped
+
+-- a value of type `void` says nothing
+abbrev pub gives_nothing_in : ValueLayer → Bool
+gives_nothing_in (layer.Value::Simple t v) = is_void (out-Ty t)
+gives_nothing_in _ = false
+
+unfoldable pub gives_nothing : Value → Bool
+gives_nothing v = gives_nothing_in (out-Value v)
+
+-- whether a statement may drop what its expression gave
+abbrev pub may_drop : Operand → Bool
+may_drop (known v) = gives_nothing v
+may_drop (run t e) = is_noreturn t
+
+-- What is told of an operand that may not be dropped. One of type `void` is evaluated at run time, which has no
+-- rule yet; the value of any other is lost.
+abbrev pub dropping_code : Operand → DiagCode
+dropping_code (known v) = code.ValueIgnored
+dropping_code (run t e) = if is_void (out-Ty t) then code.NotBuilt else code.ValueIgnored
+
+-- a statement that is an expression; one that never ends is told by its operand
+unfoldable pub dropped : Frame → (place : ℕ) → Operand → Elab Operand
+dropped f place o = if may_drop o then pure o else wrong f place (dropping_code o)
+
+-- ---- the ends of blocks
 
 -- What runs as a block or a function is left has no rule yet.
 unfoldable pub leaving : {A : Type 0} → Frame → (place : ℕ) → Core → Elab A → Elab A

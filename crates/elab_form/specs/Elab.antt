@@ -9,7 +9,7 @@ use Rattle.elab_form.specs.Places.{place_of, value_place}
 use Rattle.elab_form.specs.Coercion.{fitting}
 use Rattle.elab_form.specs.Names.{primitive_form, declared_form}
 use Rattle.elab_form.specs.Numbers.{integer_form}
-use Rattle.elab_form.specs.Control.{void_value, behind_statement, block_end, leaving_all, return_with}
+use Rattle.elab_form.specs.Control.{void_value, behind_statement, block_end, dropped, leaving_all, return_with}
 
 -- A form in its frame, with its result type where it has one.
 abbrev pub FormOf : Type 0
@@ -31,6 +31,8 @@ abbrev mutual
       seq (apart (fitting f (value_place place c) f.result (form inner f f.result c)))
       (λ o. leaving_all f place leaves (return_with f place o))
   form inner f want (core.block place statements leaves) = seq (forms inner f statements) (block_end f place leaves)
+  -- an expression as a statement has no result type
+  form inner f want (core.ignored place c) = seq (form inner f None c) (dropped f place)
   form inner f want c = not_built f (place_of c)
 
   -- statements in a row, up to one that never ends

@@ -27,6 +27,7 @@ use Rattle.elab_form.specs.Questions.{TextPart, head, whole, Question, Answer, t
 use Rattle.elab_form.specs.State.{Frame, Operand, known, run, start}
 use Rattle.elab_form.specs.Asking.{Out, gives, returns, breaks, continues, wrong_by, Elab, pure, seq, asking, referring, wrong, not_built, acts, evaluated}
 use Rattle.elab_form.specs.Places.{place_of, is_absent}
+use Rattle.elab_form.specs.Coercion.{is_void}
 use Rattle.elab_form.specs.Control.{is_never}
 use Rattle.elab_form.specs.Code.{body_code}
 use Rattle.elab_form.specs.Elab.{expression}
@@ -163,10 +164,6 @@ abbrev pub declaration : DeclPath → Elab UnitValue
 declaration d = asking (text (head d)) (head_answer d)
 
 -- ---- the unit of a body
-
-abbrev pub is_void : TyLayer → Bool
-is_void (layer.Ty::Simple simple.Void) = true
-is_void _ = false
 
 -- the end of the body: where it is reached, a function without a value returns, and others may not come there
 abbrev pub body_end : Frame → (name_place : ℕ) → Ty → Operand → Elab (Unit {0})

@@ -2,6 +2,7 @@
 use Rattle.std.proofs.Common.{◌≡◌, ℕ, zero, suc, ◌+◌, ◌<◌, true, false, List, [], ◌∷◌, map, drop, length, refl, sym, ap, ap₂, ◌∙◌, subst, Option, Some, None, Ok, Err, arith}
 use Rattle.std.proofs.lemmas.Bool.{eqb-true}
 use Rattle.std.specs.Prelude.{get_or, ◌==◌, ◌&&◌}
+use Rattle.zw_base.specs.declared.diag.DiagCode.{DiagCode}
 use Rattle.zw_base.specs.declared.diag.DiagCode.TheVariants as code
 use Rattle.zir_form.specs.declared.form.Form.{Form}
 use Rattle.zir_form.specs.declared.form.Form.TheVariants as form
@@ -26,7 +27,7 @@ use Rattle.elab_form.specs.Asking.{Elab, pure, seq, asking, apart, wrong}
 use Rattle.elab_form.specs.Places.{is_absent, place_of, value_place}
 use Rattle.air_form.specs.Typed.{Statement}
 use Rattle.elab_form.specs.Coercion.{fitted, fitting}
-use Rattle.elab_form.specs.Control.{is_never, leaving, void_value, behind_statement, block_end, leaving_all, return_with}
+use Rattle.elab_form.specs.Control.{is_never, leaving, void_value, behind_statement, block_end, may_drop, dropping_code, dropped, leaving_all, return_with}
 use Rattle.elab_form.specs.Elab.{form_at, forms, inner_at, most_calls}
 use Rattle.elab_form.specs.Names.{constant_in, declared_form, declared_in, declared_value, is_file, primitive_form}
 use Rattle.elab_form.specs.Numbers.{integer_form}
@@ -79,6 +80,10 @@ module _ (f : Frame) (want : Option Ty) (at : ℕ → Core) (fm : Form) where
   block-form place statements lines leaves e h =
       ap (λ x. of_tree f want (over_cores at x)) e ∙ ap (λ ls. of_tree f None (core.block place (cores_of (map at ls)) (at leaves))) (sym h)
 
+  pub ignored-form : (place value : ℕ) → fm ≡ form.Ignored place value → of_tree f want (over_cores at fm) ≡ of_tree f None (core.ignored place (at value))
+  unfolding form_at over_cores
+  ignored-form place value e = ap (λ x. of_tree f want (over_cores at x)) e
+
 pub missing-form : (f : Frame) (want : Option Ty) (c : Core) → c ≡ core.missing → of_tree f want c ≡ wrong f 0 code.NotBuilt
 unfolding form_at
 missing-form f want c e = ap (of_tree f want) e
@@ -94,6 +99,7 @@ later-form f want at (form.Grouped p i) place e h = absurd (cc)
 later-form f want at form.Absent place e h = absurd (cc)
 later-form f want at (form.Return p v l) place e h = absurd (cc)
 later-form f want at (form.Block p s l) place e h = absurd (cc)
+later-form f want at (form.Ignored p v) place e h = absurd (cc)
 later-form f want at _ place e h = ap (λ x. wrong f x code.NotBuilt) h
 
 -- ---- forms with parts
@@ -128,6 +134,9 @@ return-grows k l f place o g w = sym (ap (λ x. return_with x place o) (frame-gr
 pub end-grows : (k l : Known) (f : CodeFrame) (place : ℕ) (leaves : Core) (o : Operand) → Grows k l → IsFrame k f → block_end (frame_at k f) place leaves o ≡ block_end (frame_at l f) place leaves o
 end-grows k l f place leaves o g w = sym (ap (λ x. block_end x place leaves o) (frame-grows k l g f w))
 
+pub dropped-grows : (k l : Known) (f : CodeFrame) (place : ℕ) (o : Operand) → Grows k l → IsFrame k f → dropped (frame_at k f) place o ≡ dropped (frame_at l f) place o
+dropped-grows k l f place o g w = sym (ap (λ x. dropped x place o) (frame-grows k l g f w))
+
 pub form-grows : (k l : Known) (f : CodeFrame) (c : Core) → Grows k l → IsFrame k f → form_at most_calls (frame_at k f) None c ≡ form_at most_calls (frame_at l f) None c
 form-grows k l f c g w = sym (ap (λ x. form_at most_calls x None c) (frame-grows k l g f w))
 
@@ -144,6 +153,20 @@ pub block-is : (f : Frame) (place : ℕ) (statements : Cores) (leaves : Core) �
     ≡ seq (forms (inner_at most_calls) f statements) (block_end f place leaves)
 unfolding form_at
 block-is f place statements leaves = refl
+
+pub ignored-is : (f : Frame) (place : ℕ) (c : Core) → form_at most_calls f None (core.ignored place c) ≡ seq (form_at most_calls f None c) (dropped f place)
+unfolding form_at
+ignored-is f place c = refl
+
+-- ---- statements whose value is dropped
+
+pub drop-given : (f : Frame) (place : ℕ) (o : Operand) → may_drop o ≡ true → dropped f place o ≡ pure o
+unfolding dropped
+drop-given f place o e = chosen _ _ _ e
+
+pub drop-wrong : (f : Frame) (place : ℕ) (o : Operand) (c : DiagCode) → may_drop o ≡ false → c ≡ dropping_code o → dropped f place o ≡ wrong f place c
+unfolding dropped
+drop-wrong f place o c e h = passed _ _ _ e ∙ ap (λ x. wrong f place x) (sym h)
 
 -- ---- statements in a row
 

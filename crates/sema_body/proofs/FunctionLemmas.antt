@@ -12,12 +12,13 @@ use Rattle.type_form.specs.Means.{IsTy, ty_at}
 use Rattle.air_form.specs.declared.node.AirRef.{AirRef}
 use Rattle.air_form.specs.declared.node.AirNode.TheVariants as node
 use Rattle.air_form.specs.Typed as typed
+use Rattle.elab_form.specs.Coercion.{is_void}
 use Rattle.elab_form.specs.Control.{is_never, is_none}
 use Rattle.elab_form.specs.Questions as plain
 use Rattle.elab_form.specs.State.{Frame as AnyFrame, Operand as AnyOperand}
 use Rattle.elab_form.specs.Asking.{pure, seq, acts, wrong, not_built}
 use Rattle.elab_form.specs.Standing.{stand}
-use Rattle.elab_form.specs.Units.{type_form, no_text, frame, is_void, body_end, written_body, body_with, body_typed, body_by, body_form, body_answer}
+use Rattle.elab_form.specs.Units.{type_form, no_text, frame, body_end, written_body, body_with, body_typed, body_by, body_form, body_answer}
 use Rattle.trace_log.specs.declared.answer.Answer.{Answer}
 use Rattle.trace_log.specs.declared.answer.Answer.TheVariants as answer
 use Rattle.trace_log.specs.declared.answer.TreeRef.{TreeRef}

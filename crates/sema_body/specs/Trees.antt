@@ -25,4 +25,5 @@ has_rule (form.Grouped place inner) = true
 has_rule form.Absent = true
 has_rule (form.Return place value leaves) = true
 has_rule (form.Block place statements leaves) = true
+has_rule (form.Ignored place value) = true
 has_rule _ = false

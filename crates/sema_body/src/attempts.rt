@@ -1,8 +1,7 @@
 // Units of analysis, as far as the answers at hand take them.
 ghost use Rattle.std.specs.Prelude.{◌≡◌, false, [], IfOk};
-ghost use Rattle.type_form.specs.declared.tree.Arg.TheViews.{out-Ty};
 ghost use Rattle.type_form.specs.Known.{IsInjective};
-ghost use Rattle.type_form.specs.Means.{IsDecl, decl_at, IsInstance, instance_at, IsTy, ty_at, DenotesDecl};
+ghost use Rattle.type_form.specs.Means.{IsDecl, decl_at, IsInstance, instance_at, IsTy};
 ghost use Rattle.type_form.specs.Pool.{Interns, is_full};
 ghost use Rattle.question_runs.specs.Runs.{ends};
 ghost use Rattle.elab_form.specs.Units as plain;
@@ -13,7 +12,7 @@ ghost use Rattle.sema_body.specs.Attempts.{AttemptBy, NeedsResult, WrittenAttemp
 ghost use Rattle.sema_body.specs.Meets.{IsState, halts_full};
 
 use crate::declare::declaration;
-use crate::function_body::{body_of, instance_decl, written_value};
+use crate::function_body::{body_of, written_value};
 use crate::halt::Halt;
 use crate::work::Work;
 use air_form::AirBuilder;
@@ -22,10 +21,8 @@ use trace_log::{
     Answers, Attempt, Diagnostic, Outcome, Question, Shared, Spot, Trace, UnitIndex, UnitResult,
     UnitValue,
 };
-use type_form::{Index, InternFault, Interner, Key};
-use type_keys::decls::comptime_decl;
-use type_keys::{intern_bytes, ty_key};
-use unit_trees::is_too_long;
+use type_form::{Index, InternFault, Interner};
+use unit_trees::{decl_of, is_too_long};
 use zw_base::{Bytes, DiagCode};
 
 /// A unit that has done nothing yet.
@@ -148,51 +145,6 @@ fn with_body<I: Interner>(
             let Work { trace, .. } = s;
             let attempt = concluded(alloc, Err(halt), trace)?;
             Ok(attempt)
-        }
-    }
-}
-
-/// The declaration that a type belongs to.
-fn decl_of_type<I: Interner>(ty: Index, p: &mut I) -> Result<Index, InternFault>
-    requires { IsTy (I.known p.old) ty }
-    ensures interns { Interns I.known I.home I.fulls p.old p.new (is_full result) }
-    ensures agrees { IsInjective (I.known p.new) }
-    ensures decl { IfOk result (λ i. DenotesDecl (I.known p.new) i (plain.decl_of_ty (out-Ty (ty_at (I.known p.old) ty)))) }
-{
-    match ty_key(ty, p) {
-        Key::ContainerType { decl, .. } => Ok(decl),
-        Key::FileType { path } => {
-            let decl = comptime_decl(path, 0, p)?;
-            Ok(decl)
-        }
-        _ => {
-            let none = intern_bytes(&[], p)?;
-            comptime_decl(none, 0, p)
-        }
-    }
-}
-
-/// The declaration that a unit belongs to.
-#[tactic(auto, unfolding(elab_form::specs::Units::decl_of))]
-fn decl_of<I: Interner>(unit: UnitIndex, p: &mut I) -> Result<Index, InternFault>
-    requires unit { IsUnit (I.known p.old) unit }
-    requires agrees { IsInjective (I.known p.old) }
-    ensures interns { Interns I.known I.home I.fulls p.old p.new (is_full result) }
-    ensures agrees { IsInjective (I.known p.new) }
-    ensures decl { IfOk result (λ i. DenotesDecl (I.known p.new) i (plain.decl_of (unit_at (I.known p.old) unit))) }
-{
-    match unit {
-        UnitIndex::Decl(decl) => Ok(decl),
-        UnitIndex::Body(instance) | UnitIndex::ErrorSet(instance) | UnitIndex::Code(instance) => {
-            Ok(instance_decl(instance, p))
-        }
-        UnitIndex::Fields(ty) => {
-            let decl = decl_of_type(ty, p)?;
-            Ok(decl)
-        }
-        UnitIndex::Comptime { file, number } => {
-            let decl = comptime_decl(file, number, p)?;
-            Ok(decl)
         }
     }
 }

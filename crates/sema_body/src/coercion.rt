@@ -3,7 +3,7 @@ ghost use Rattle.std.specs.Prelude.{◌≡◌, ◌≤◌, ◌-◌, ◌^◌, pos,
 ghost use Rattle.std.specs.Option.{option_map};
 ghost use Rattle.type_form.specs.Known.{Known, IsInjective};
 ghost use Rattle.type_form.specs.Means.{IsTy, ty_at, IsValue, value_at};
-ghost use Rattle.type_form.specs.declared.tree.Arg.TheViews.{out-Value};
+ghost use Rattle.type_form.specs.declared.tree.Arg.TheViews.{out-Ty, out-Value};
 ghost use Rattle.type_form.specs.Pool.{Interns, Reads, is_full};
 ghost use Rattle.elab_form.specs.Coercion as plain;
 ghost use Rattle.sema_body.specs.Meets.{Stands, Meets, IsFrame, IsOperand, IsWanted, frame_at, from, halts_full, operand_at};
@@ -207,6 +207,19 @@ pub(crate) fn is_noreturn<P: Keys>(ty: Index, p: &mut P) -> bool
 {
     match ty_key(ty, p) {
         Key::SimpleType(SimpleTy::Noreturn) => true,
+        _ => false,
+    }
+}
+
+/// Whether a type is `void`.
+pub(crate) fn is_void<P: Keys>(ty: Index, p: &mut P) -> bool
+    requires { IsTy (P.known p.old) ty }
+    ensures reads { Reads P.known P.home P.fulls p.old p.new }
+    ensures agrees { IsInjective (P.known p.new) }
+    ensures void { result ≡ plain.is_void (out-Ty (ty_at (P.known p.old) ty)) }
+{
+    match ty_key(ty, p) {
+        Key::SimpleType(SimpleTy::Void) => true,
         _ => false,
     }
 }

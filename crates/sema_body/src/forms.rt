@@ -11,7 +11,7 @@ ghost use Rattle.sema_body.specs.Trees.{tree_at, child_at, has_rule};
 ghost use Rattle.sema_body.specs.Meets.{Stands, Meets, MeetsOperand, IsApart, apart_at, IsFrame, IsWanted, frame_at, from, halts_full, want_at};
 
 use crate::asking::wrong;
-use crate::blocks::{block_end, is_never, void_form};
+use crate::blocks::{block_end, dropped, is_never, void_form};
 use crate::coercion::fitted;
 use crate::control::return_with;
 use crate::frame::Frame;
@@ -68,7 +68,8 @@ fn has_rule(form: &Form) -> bool
         | Form::Grouped { .. }
         | Form::Absent
         | Form::Return { .. }
-        | Form::Block { .. } => true,
+        | Form::Block { .. }
+        | Form::Ignored { .. } => true,
         _ => false,
     }
 }
@@ -111,6 +112,7 @@ fn by_rule<I: Interner>(
             statements,
             leaves,
         } => block_form(cx, f, *place, tree, statements.as_slice(), *leaves, s, p),
+        Form::Ignored { place, value } => ignored_form(cx, f, *place, tree, *value, s, p),
         _ => Err(Halt::OutOfMemory),
     }
 }
@@ -255,6 +257,30 @@ fn block_form<I: Interner>(
     match all_forms(cx, f, tree, statements, s, p) {
         Err(halt) => Err(halt),
         Ok(o) => block_end(cx, f, place, tree, leaves, o, s, p),
+    }
+}
+
+/// An expression as a statement, which has no result type.
+#[cycle(forms)]
+fn ignored_form<I: Interner>(
+    cx: &Answers,
+    f: &Frame,
+    place: u32,
+    tree: TreeRef,
+    value: u32,
+    s: &mut Work,
+    p: &mut I,
+) -> Result<Operand, Halt>
+    requires frame { IsFrame (I.known p.old) f.now }
+    requires stands { Stands (I.known p.old) cx.now s.old }
+    ensures interns { Interns I.known I.home I.fulls p.old p.new (halts_full result) }
+    ensures lists { OnOk result (length s.old.body.statements ≤ length s.new.body.statements) }
+    ensures meets { MeetsOperand (I.known p.new) cx.now s.new result (from (I.known p.old) cx.now s.old
+        (plain.form_at plain.most_calls (frame_at (I.known p.old) f.now) None (core.ignored place (child_at cx.now tree value)))) }
+{
+    match child_form(cx, f, None, tree, value, s, p) {
+        Err(halt) => Err(halt),
+        Ok(o) => dropped(cx, f, place, o, s, p),
     }
 }
 

@@ -1,6 +1,5 @@
 // Typed bodies of functions (Zig Language Reference 0.14, "Functions").
 ghost use Rattle.std.specs.Prelude.{◌≡◌, Some, IfOk};
-ghost use Rattle.type_form.specs.declared.tree.Arg.TheViews.{out-Ty};
 ghost use Rattle.type_form.specs.Known.{IsInjective};
 ghost use Rattle.type_form.specs.Means.{IsDecl, decl_at, IsTy, ty_at, IsInstance, instance_at};
 ghost use Rattle.type_form.specs.Pool.{Interns, Reads, is_full};
@@ -16,6 +15,7 @@ ghost use Rattle.sema_body.specs.Units.{MeetsNothing, MeetsWritten, written_in};
 use crate::asking::{ask, wrong};
 use crate::blocks::is_never;
 use crate::body::{act, put};
+use crate::coercion::is_void;
 use crate::declare::tree_in;
 use crate::forms::expression;
 use crate::frame::Frame;
@@ -27,22 +27,10 @@ use crate::work::Work;
 use air_form::{AirBuilder, AirNode};
 use std::alloc::Global;
 use trace_log::{Answers, Question, TextPart, TreeRef, UnitValue};
-use type_form::{Index, InternFault, Interner, Key, Keys, SimpleTy};
-use type_keys::{instance_key, intern_list, ty_key};
+use type_form::{Index, InternFault, Interner, Key, Keys};
+use type_keys::intern_list;
+use unit_trees::instance_decl;
 use zw_base::DiagCode;
-
-/// Whether a type is `void`.
-fn is_void<P: Keys>(ty: Index, p: &mut P) -> bool
-    requires { IsTy (P.known p.old) ty }
-    ensures reads { Reads P.known P.home P.fulls p.old p.new }
-    ensures agrees { IsInjective (P.known p.new) }
-    ensures void { result ≡ plain.is_void (out-Ty (ty_at (P.known p.old) ty)) }
-{
-    match ty_key(ty, p) {
-        Key::SimpleType(SimpleTy::Void) => true,
-        _ => false,
-    }
-}
 
 /// The end of a body: where it is reached, a function without a value returns, and others may not
 /// come there.
@@ -210,20 +198,6 @@ fn body_form<I: Interner>(
     match tree_function(cx, tree) {
         Some((head, line)) => body_by(cx, f, tree, head, line, s, p),
         None => Err(wrong(s.alloc, f, 0, DiagCode::NotBuilt)),
-    }
-}
-
-/// The declaration of an instance.
-pub(crate) fn instance_decl<P: Keys>(instance: Index, p: &mut P) -> Index
-    requires { IsInstance (P.known p.old) instance }
-    ensures reads { Reads P.known P.home P.fulls p.old p.new }
-    ensures agrees { IsInjective (P.known p.new) }
-    ensures known { IsDecl (P.known p.old) result }
-    ensures decl { decl_at (P.known p.old) result ≡ (instance_at (P.known p.old) instance).decl }
-{
-    match instance_key(instance, p) {
-        Key::Instance { decl, .. } => decl,
-        _ => unreachable!(),
     }
 }
 

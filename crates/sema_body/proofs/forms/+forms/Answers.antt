@@ -3,7 +3,7 @@ use Rattle.zw_base.specs.declared.diag.DiagCode.TheVariants as code
 use Rattle.elab_form.specs.Elab.{form_at, most_calls}
 use Rattle.sema_body.specs.Trees.{tree_at}
 use Rattle.sema_body.proofs.ApartLemmas.{halts-apart, meets-apart}
-use Rattle.sema_body.proofs.FormLemmas.{absent-form, block-form, block-is, end-grows, fitted-grows, fitting-is, grouped-form, integer-form, later-form, leaving-none, leaving-some, missing-form, name-form, next-ends, next-halts, next-on, return-form, return-grows, return-is, word-form}
+use Rattle.sema_body.proofs.FormLemmas.{absent-form, block-form, block-is, dropped-grows, end-grows, fitted-grows, fitting-is, grouped-form, ignored-form, ignored-is, integer-form, later-form, leaving-none, leaving-some, missing-form, name-form, next-ends, next-halts, next-on, return-form, return-grows, return-is, word-form}
 use Rattle.sema_body.proofs.Reaching.{reach-first, reach-goes, reach-halts, reach-same, reach-ends, reach-wrong}
 use Rattle.sema_body.proofs.ControlLemmas.{longer-twice}
 use Rattle.sema_body.proofs.TableCalls.{Interns-then, Reads-alone}
@@ -39,6 +39,9 @@ by_rule-returns-in-Return-clause-meets g t c = reach-ends (reach-first (return-f
 
 pub by_rule-returns-in-Block-clause-meets : goal.by_rule-returns-in-Block-clause-meets
 by_rule-returns-in-Block-clause-meets g t c = reach-ends (reach-first (block-form _ _ _ _ _ _ _ _ c.in-Block.is c.as_slice-in-Block.ensures) c.requires.stands) c.block_form.ensures.meets
+
+pub by_rule-returns-in-Ignored-clause-meets : goal.by_rule-returns-in-Ignored-clause-meets
+by_rule-returns-in-Ignored-clause-meets g t c = reach-ends (reach-first (ignored-form _ _ _ _ _ _ c.in-Ignored.is) c.requires.stands) c.ignored_form.ensures.meets
 
 pub child_form-returns-then-line-parent-clause-meets : goal.child_form-returns-then-line-parent-clause-meets
 child_form-returns-then-line-parent-clause-meets g t c =
@@ -84,6 +87,14 @@ pub block_form-returns-in-Ok-clause-meets : goal.block_form-returns-in-Ok-clause
 block_form-returns-in-Ok-clause-meets g t c =
     let given = reach-goes _ _ _ (reach-first (block-is _ _ _ _) c.requires.stands) c.all_forms.ensures.interns.grows c.in-Ok.ensures.meets in
     reach-ends (reach-same (end-grows _ _ c.args.f.now _ _ _ c.all_forms.ensures.interns.grows c.requires.frame) given) c.block_end.ensures.meets
+
+pub ignored_form-returns-in-Err-clause-meets : goal.ignored_form-returns-in-Err-clause-meets
+ignored_form-returns-in-Err-clause-meets g t c = reach-halts _ _ _ (reach-first (ignored-is _ _ _) c.requires.stands) c.in-Err.ensures.meets
+
+pub ignored_form-returns-in-Ok-clause-meets : goal.ignored_form-returns-in-Ok-clause-meets
+ignored_form-returns-in-Ok-clause-meets g t c =
+    let given = reach-goes _ _ _ (reach-first (ignored-is _ _ _) c.requires.stands) c.child_form.ensures.interns.grows c.in-Ok.ensures.meets in
+    reach-ends (reach-same (dropped-grows _ _ c.args.f.now _ _ c.child_form.ensures.interns.grows c.requires.frame) given) c.dropped.ensures.meets
 
 pub all_forms-returns-in-Err-clause-meets : goal.all_forms-returns-in-Err-clause-meets
 all_forms-returns-in-Err-clause-meets g t c =

@@ -31,6 +31,9 @@ decreases-all_forms g l = 8 * l.tree.line + 1
 abbrev pub decreases-block_form : goal.decreases-block_form
 decreases-block_form g l = 8 * l.tree.line + 2
 
+abbrev pub decreases-ignored_form : goal.decreases-ignored_form
+decreases-ignored_form g l = 8 * l.tree.line + 1
+
 -- the statements so far were met: what is left are the others
 abbrev pub invariant-all_forms-loop-line : goal.invariant-all_forms-loop-line
 invariant-all_forms-loop-line g l =

@@ -2,7 +2,7 @@ use Rattle.std.proofs.Common.{refl, sym, ap, ◌∙◌}
 use Rattle.zw_base.specs.declared.diag.DiagCode.TheVariants as code
 use Rattle.type_form.specs.declared.tree.Ty.{out-Ty}
 use Rattle.type_form.specs.Means.{ty_at}
-use Rattle.elab_form.specs.Units.{is_void}
+use Rattle.elab_form.specs.Coercion.{is_void}
 use Rattle.sema_body.specs.Meets.{operand_at}
 use Rattle.sema_body.proofs.FunctionLemmas.{end-never, end-void, end-without, bare-return}
 use Rattle.sema_body.proofs.UnitLemmas.{framed, known_of}
