@@ -1,0 +1,3 @@
+pub mod RootFiles
+pub mod RootUnits
+pub mod Telling

@@ -1,0 +1,4 @@
+pub mod HeadLemmas
+pub mod StayLemmas
+pub mod ReportLemmas
+pub mod SpellLemmas
