@@ -8,7 +8,7 @@ ghost use Rattle.zir_scope.specs.Syntax.{inside_of, row_in, rule_at};
 use crate::built::FileForms;
 use crate::rows::rule_at;
 use std::alloc::{AllocError, Global};
-use zig_tree::{Kid, Rule};
+use zig_tree::{Kid, Rule, Token, Tree};
 use zir_scope::Outline;
 
 impl FileForms<'_> {
@@ -80,22 +80,27 @@ impl FileForms<'_> {
     }
 }
 
-/// The first token of the first form of the file with this root that is not built, if there is one:
-/// from the root, a form before those that it holds, in the order of the text. It goes through the
-/// tree once.
+/// The first token of the first form of a file that is not built, if there is one: from the root, a
+/// form before those that it holds, in the order of the text. It goes through the tree once.
 #[tactic(auto, unfolding(crate::specs::Unbuilt::unbuilt, zir_scope::specs::Syntax::inside_of))]
 pub fn first_unbuilt(
     alloc: Global,
     text: &[u8],
-    outline: &Outline<'_>,
-    root: u32,
+    tokens: &[Token],
+    tree: &Tree,
 ) -> Result<Option<u32>, AllocError>
-    ensures { IfOk result (λ t. t ≡ spec.unbuilt text.now outline.now.tokens.now outline.now.nodes.now root) }
+    ensures { IfOk result (λ t. t ≡ spec.unbuilt text.now tokens.now tree.now.nodes tree.now.root) }
 {
+    let outline = Outline {
+        tokens,
+        nodes: tree.nodes.as_slice(),
+        facts: &[],
+    };
     let forms = FileForms {
         alloc,
         text,
-        outline,
+        outline: &outline,
     };
-    forms.unbuilt_at(Rule::Root, root)
+    let first = forms.unbuilt_at(Rule::Root, tree.root)?;
+    Ok(first)
 }

@@ -18,7 +18,7 @@ use Rattle.std.proofs.lemmas.Slice.Eq.{bytes_eq-Decides}
 use lib.Pointwise.{pointwise}
 use Rattle.zw_base.specs.Outside.{file_at}
 use Rattle.diag_order.specs.Sorted.{text_in}
-use Rattle.watch_core.specs.declared.front.SourceFile.{SourceFile}
+use Rattle.zir_form.specs.declared.front.Front.{Front}
 use Rattle.watch_core.specs.SessionState.{with_file, total_bytes}
 use Rattle.watch_core.specs.Sources.{at_path, AreRead, IsRead}
 
@@ -170,7 +170,7 @@ some_same : {A : Type 0} (x y : A) → Some x ≡ Some y → x ≡ y
 some_same x y e = cc
 
 -- one more was read
-pub read_more : (sources : List (List ℕ × SourceFile)) (files : List (List ℕ × List ℕ)) (path : List ℕ) (file : SourceFile) → AreRead sources files → IsRead (text_in files path) file → AreRead (insert_entry (slice_cmp nat_cmp) sources path file) files
+pub read_more : (sources : List (List ℕ × Front)) (files : List (List ℕ × List ℕ)) (path : List ℕ) (file : Front) → AreRead sources files → IsRead (text_in files path) file → AreRead (insert_entry (slice_cmp nat_cmp) sources path file) files
 read_more sources files path file read new q found e =
     chosen (is_at (slice_cmp nat_cmp q) path) refl (sym (at_path-insert sources path file q) ∙ e)
   where
@@ -181,7 +181,7 @@ read_more sources files path file read new q found e =
     chosen false at e = read q found e
 
 -- those that were read without one
-pub read_less : (old new : List (List ℕ × SourceFile)) (files : List (List ℕ × List ℕ)) (path : List ℕ) → ((q : List ℕ) → at_path new q ≡ cond (is_at (slice_cmp nat_cmp path) q) None (at_path old q)) → AreRead old files → AreRead new files
+pub read_less : (old new : List (List ℕ × Front)) (files : List (List ℕ × List ℕ)) (path : List ℕ) → ((q : List ℕ) → at_path new q ≡ cond (is_at (slice_cmp nat_cmp path) q) None (at_path old q)) → AreRead old files → AreRead new files
 read_less old new files path less read q found e = chosen (is_at (slice_cmp nat_cmp path) q) (sym (less q) ∙ e)
   where
     chosen : (b : Bool) → cond b None (at_path old q) ≡ Some found → IsRead (text_in files q) found
@@ -189,7 +189,7 @@ read_less old new files path less read q found e = chosen (is_at (slice_cmp nat_
     chosen false e = read q found e
 
 -- they stay read where that one has another text
-pub read_changed : (old new : List (List ℕ × SourceFile)) (files : List (List ℕ × List ℕ)) (path text : List ℕ) → ((q : List ℕ) → at_path new q ≡ cond (is_at (slice_cmp nat_cmp path) q) None (at_path old q)) → AreRead old files → AreRead new (with_file files path text)
+pub read_changed : (old new : List (List ℕ × Front)) (files : List (List ℕ × List ℕ)) (path text : List ℕ) → ((q : List ℕ) → at_path new q ≡ cond (is_at (slice_cmp nat_cmp path) q) None (at_path old q)) → AreRead old files → AreRead new (with_file files path text)
 read_changed old new files path text less read q found e = chosen (is_at (slice_cmp nat_cmp path) q) refl (sym (less q) ∙ e)
   where
     chosen : (b : Bool) → is_at (slice_cmp nat_cmp path) q ≡ b → cond b None (at_path old q) ≡ Some found → IsRead (text_in (with_file files path text) q) found
@@ -199,7 +199,7 @@ read_changed old new files path text less read q found e = chosen (is_at (slice_
         subst (λ (t : List ℕ). IsRead t found) (sym same) (read q found e)
 
 -- and where it has the same text
-pub read_same : (sources : List (List ℕ × SourceFile)) (files : List (List ℕ × List ℕ)) (path text : List ℕ) → bytes_eq (text_in files path) text ≡ true → AreRead sources files → AreRead sources (with_file files path text)
+pub read_same : (sources : List (List ℕ × Front)) (files : List (List ℕ × List ℕ)) (path text : List ℕ) → bytes_eq (text_in files path) text ≡ true → AreRead sources files → AreRead sources (with_file files path text)
 read_same sources files path text same read q found e =
     subst (λ (t : List ℕ). IsRead t found) (sym (text_in-with_file files path text q ∙ chosen (is_at (slice_cmp nat_cmp q) path) refl)) (read q found e)
   where

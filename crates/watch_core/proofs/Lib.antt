@@ -1,9 +1,7 @@
-pub mod FormLemmas
 pub mod FilesLemmas
 pub mod LimitLemmas
 pub mod TokenLemmas
 pub mod StageLemmas
 pub mod PlaceLemmas
 pub mod CaseLemmas
-pub mod LinkLemmas
 pub mod InOrder

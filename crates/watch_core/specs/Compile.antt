@@ -1,19 +1,23 @@
 -- What a compilation answers: the files as they stand, from the root on.
-use Rattle.std.specs.Prelude.{ℕ, ◌++◌, nat_lt, if◌then◌else◌, List, [], ◌∷◌, length, map, Option, None, Some, option_to_list}
+use Rattle.std.specs.Prelude.{ℕ, ◌++◌, List, [], ◌∷◌, map, Option, None, Some}
 use Rattle.std.specs.List.{flat_map}
 use Rattle.zw_base.specs.Outside.{file_at}
 use Rattle.zw_base.specs.declared.diag.DiagCode.{DiagCode}
-use Rattle.zw_base.specs.declared.diag.DiagCode.TheVariants.{NotBuilt, RootMissing, ModuleTooLarge}
+use Rattle.zw_base.specs.declared.diag.DiagCode.TheVariants.{RootMissing, TooManyUnits}
 use Rattle.zw_base.specs.declared.diag.Found.{Found}
 use Rattle.diag_order.specs.declared.line.Diag.{Diag}
 use Rattle.diag_order.specs.declared.line.Line.{Line}
 use Rattle.diag_order.specs.Sorted.{text_in, line_of}
-use Rattle.wasm_form.specs.declared.encoder.TheConstants.{MOST_BYTES}
-use Rattle.wasm_form.specs.Binary.{module_bytes}
-use Rattle.watch_core.specs.declared.form.ConstFunction.{ConstFunction}
-use Rattle.watch_core.specs.Front.{SourceForm, source_of, found_at}
+use Rattle.wasm_link.specs.declared.named.Function.{Function}
+use Rattle.wasm_link.specs.Link.{linked}
+use Rattle.unit_reports.specs.declared.answer.LinkAnswer.{LinkAnswer}
+use Rattle.unit_reports.specs.declared.answer.LinkAnswer.TheVariants as answer
+use Rattle.unit_reports.specs.LinkAnswers.{link_answer}
+use Rattle.root_analysis.specs.declared.analysis.RootAnalysis.{RootAnalysis}
+use Rattle.root_analysis.specs.declared.analysis.RootAnalysis.TheVariants as analysed
+use Rattle.root_analysis.specs.Analysis.{analysis}
+use Rattle.watch_core.specs.Front.{front_of, found_at}
 use Rattle.watch_core.specs.InOrder.{in_order}
-use Rattle.watch_core.specs.Link.{linked}
 
 -- pairs of path and bytes; a path that is not there reads as an empty file, by `text_in`
 abbrev pub Files : Type 0
@@ -46,42 +50,27 @@ absence_diags path (Some text) = []
 unfoldable pub root_diags : List ℕ → Files → List Diag
 root_diags root files = absence_diags root (file_at files root)
 
--- a file of the built form has nothing against it, and any other that its form is not built
-abbrev pub form_faults : Option ConstFunction → List Found
-form_faults None = found_at NotBuilt 0 ∷ []
-form_faults (Some f) = []
-
-abbrev pub faults_or : List Found → List Found → List Found
-faults_or [] others = others
-faults_or (f ∷ fs) others = f ∷ fs
-
--- what is wrong with a file: with its text, or else with its form
-abbrev pub source_faults : SourceForm → List Found
-source_faults source = faults_or source.front.found (form_faults source.built)
-
-abbrev pub source_diags : List ℕ → SourceForm → List Diag
-source_diags path source = map (diag_of path) (source_faults source)
-
+-- a file that is reached has a fault: of its text, its names and builtins, or else a form that is not built
 unfoldable pub file_diags : Files → List ℕ → List Diag
-file_diags files path = source_diags path (source_of (text_in files path))
+file_diags files path = map (diag_of path) (front_of (text_in files path)).found
 
 abbrev pub front_diags : List ℕ → Files → List Diag
 front_diags root files = flat_map (file_diags files) (reach root files)
 
--- the functions that are compiled
-unfoldable pub functions : List ℕ → Files → List ConstFunction
-functions root files = option_to_list (source_of (text_in files root)).built
+-- more units are demanded than may be
+abbrev pub many_diags : List ℕ → RootAnalysis → List Diag
+many_diags root analysed.TooMany = diag_at_start root TooManyUnits ∷ []
+many_diags root (analysed.Told units founds functions) = []
 
--- the bytes of their module
-unfoldable pub module_of : List ℕ → Files → List ℕ
-module_of root files = module_bytes (linked (functions root files))
+-- a demanded unit failed, or units wait for each other
+abbrev pub unit_diags : List ℕ → RootAnalysis → List Diag
+unit_diags root analysed.TooMany = []
+unit_diags root (analysed.Told units founds functions) = map (diag_of root) founds
 
--- what the linker has against a module of these bytes
-abbrev pub size_diags : List ℕ → List ℕ → List Diag
-size_diags root bytes = if nat_lt MOST_BYTES (length bytes) then diag_at_start root ModuleTooLarge ∷ [] else []
-
-abbrev pub link_diags : List ℕ → Files → List Diag
-link_diags root files = size_diags root (module_of root files)
+-- the functions that are linked
+abbrev pub functions_in : RootAnalysis → List Function
+functions_in analysed.TooMany = []
+functions_in (analysed.Told units founds functions) = functions
 
 -- ---- the answer
 
@@ -92,10 +81,11 @@ early_cases root files =
     ∷ front_diags root files
     ∷ []
 
--- and those after the units were analysed
-abbrev pub late_cases : List ℕ → Files → List (List Diag)
-late_cases root files =
-    link_diags root files
+-- and those of the units
+abbrev pub late_cases : List ℕ → RootAnalysis → List (List Diag)
+late_cases root a =
+    many_diags root a
+    ∷ unit_diags root a
     ∷ []
 
 -- the first that has a diagnostic
@@ -109,11 +99,22 @@ pub data Compiled : Type 0 where
   Refused : List Line → Compiled
   Linked : List ℕ → Compiled
 
--- the diagnostics of the case that applies, or the module where none does
-abbrev pub compiled : Files → List Diag → List ℕ → Compiled
-compiled files [] bytes = Linked bytes
-compiled files (d ∷ ds) bytes = Refused (placed files (d ∷ ds))
+-- the diagnostics of the case that applies, or the linker's answer where none does
+abbrev pub compiled : Files → List Diag → LinkAnswer → Compiled
+compiled files (d ∷ ds) a = Refused (placed files (d ∷ ds))
+compiled files [] (answer.Refused diags) = Refused (placed files diags)
+compiled files [] (answer.Module bytes) = Linked bytes
+
+-- the analysis of the root as it stands
+unfoldable pub analysis_of : List ℕ → Files → RootAnalysis
+analysis_of root files = analysis root (front_of (text_in files root))
+
+-- what the linker answers to its functions
+abbrev pub link_of : List ℕ → RootAnalysis → LinkAnswer
+link_of root a = link_answer root (linked (functions_in a) [] [])
 
 -- the answer for the files, from the root on
 unfoldable pub compile : List ℕ → Files → Compiled
-compile root files = compiled files (first_of (early_cases root files ++ late_cases root files)) (module_of root files)
+compile root files =
+    compiled files (first_of (early_cases root files ++ late_cases root (analysis_of root files)))
+    (link_of root (analysis_of root files))

@@ -14,15 +14,8 @@ use Rattle.zig_parse.specs.Growth.{parse_of}
 use Rattle.zir_scope.specs.Findings.{scope_faults}
 use Rattle.zir_astgen.specs.Calls.{builtin_faults}
 use Rattle.zir_astgen.specs.Files.{core_file}
-use Rattle.zir_form.specs.Front.{FileFront, front_in}
-use Rattle.watch_core.specs.declared.form.ConstFunction.{ConstFunction}
-use Rattle.watch_core.specs.declared.front.SourceFile.{SourceFile}
-use Rattle.watch_core.specs.Form.{built_of}
-
--- a file before any unit is analysed: its front, and the function that its text is, where it is of the built form
-pub record SourceForm : Type 0 where
-  pub front : FileFront
-  pub built : Option ConstFunction
+use Rattle.zir_form.specs.Front.{FileFront}
+use Rattle.built_forms.specs.Unbuilt.{unbuilt}
 
 -- a diagnostic at a byte
 abbrev pub found_at : DiagCode → ℕ → Found
@@ -51,31 +44,36 @@ syntactic tokens (syntax.TooDeep n) = Some (found_at code.TooDeep (start_of toke
 syntactic tokens syntax.OutOfMemory = None
 
 -- a text without a tree has one diagnostic
-abbrev pub treeless : Option Found → SourceForm
-treeless found = record { front = record { found = option_to_list found; core = None }; built = None }
+abbrev pub treeless : Option Found → FileFront
+treeless found = record { found = option_to_list found; core = None }
 
--- a text with a tree has the diagnostics of its names and then those of its builtins; the root of a tree is its last
--- node
-abbrev pub with_tree : List ℕ → List Token → List Node → ℕ → SourceForm
+-- the first form that is not built is shown at its first token
+abbrev pub form_faults : List Token → Option ℕ → List Found
+form_faults tokens None = []
+form_faults tokens (Some n) = found_at code.NotBuilt (start_of tokens n) ∷ []
+
+abbrev pub faults_or : List Found → List Found → List Found
+faults_or [] others = others
+faults_or (f ∷ fs) others = f ∷ fs
+
+-- A text with a tree has the diagnostics of its names and then those of its builtins, or else that of its first form
+-- that is not built; the root of a tree is its last node.
+abbrev pub with_tree : List ℕ → List Token → List Node → ℕ → FileFront
 with_tree text tokens nodes root = record {
-  front = record {
-    found = scope_faults text tokens nodes root ++ builtin_faults text tokens nodes root;
-    core = Some (core_file text tokens nodes root);
-  };
-  built = built_of text tokens;
+  found =
+      faults_or (scope_faults text tokens nodes root ++ builtin_faults text tokens nodes root)
+      (form_faults tokens (unbuilt text tokens nodes root));
+  core = Some (core_file text tokens nodes root);
 }
 
-abbrev pub source_of_nodes : List ℕ → List Token → Result (List Node) SyntaxFault → SourceForm
-source_of_nodes text tokens (Ok nodes) = with_tree text tokens nodes (length nodes - 1)
-source_of_nodes text tokens (Err fault) = treeless (syntactic tokens fault)
+abbrev pub front_of_nodes : List ℕ → List Token → Result (List Node) SyntaxFault → FileFront
+front_of_nodes text tokens (Ok nodes) = with_tree text tokens nodes (length nodes - 1)
+front_of_nodes text tokens (Err fault) = treeless (syntactic tokens fault)
 
-abbrev pub source_of_tokens : List ℕ → Result (List Token) LexFault → SourceForm
-source_of_tokens text (Ok tokens) = source_of_nodes text tokens (parse_of tokens)
-source_of_tokens text (Err fault) = treeless (lexical fault)
+abbrev pub front_of_tokens : List ℕ → Result (List Token) LexFault → FileFront
+front_of_tokens text (Ok tokens) = front_of_nodes text tokens (parse_of tokens)
+front_of_tokens text (Err fault) = treeless (lexical fault)
 
-unfoldable pub source_of : List ℕ → SourceForm
-source_of text = source_of_tokens text (tokens_of text)
-
--- what a file stands for that was read
-abbrev pub form_in : SourceFile → SourceForm
-form_in file = record { front = front_in file.front; built = file.built }
+-- The front of a file of the given text.
+unfoldable pub front_of : List ℕ → FileFront
+front_of text = front_of_tokens text (tokens_of text)

@@ -1,9 +1,8 @@
 pub mod InOrder
-pub mod Form
 pub mod Front
-pub mod Link
 pub mod Compile
 pub mod Counts
+pub mod Answers
 pub mod Sources
 pub mod SessionState
 pub mod Stages

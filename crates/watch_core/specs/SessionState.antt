@@ -8,7 +8,7 @@ use Rattle.std.specs.Cmp.Lexicographic.{slice_cmp}
 use Rattle.zw_base.specs.declared.limits.TheConstants.{LIMITS}
 use Rattle.zw_base.specs.declared.status.Which.{Which}
 use Rattle.zw_base.specs.Limits.{AreWithin, files_exceeded, limit_of, sizes_of}
-use Rattle.watch_core.specs.declared.front.SourceFile.{SourceFile}
+use Rattle.zir_form.specs.declared.front.Front.{Front}
 use Rattle.watch_core.specs.declared.session.SetFault.{SetFault}
 use Rattle.watch_core.specs.declared.session.SetFault.TheVariants.{Limit, OutOfMemory}
 use Rattle.watch_core.specs.Compile.{Files}
@@ -27,7 +27,7 @@ abbrev pub total_bytes : Files → ℕ
 total_bytes files = sum_by length (values_of files)
 
 -- what a session keeps: its files are within the limits, so many bytes, and those that were read are as they stand
-pub record IsKept (files : Files) (total : ℕ) (sources : List (List ℕ × SourceFile)) : Type 0 where
+pub record IsKept (files : Files) (total : ℕ) (sources : List (List ℕ × Front)) : Type 0 where
   pub within : AreWithin LIMITS (sizes_of files)
   pub total_is : total ≡ total_bytes files
   pub read : AreRead sources files

@@ -1,27 +1,30 @@
 // The answer of an update, case by case.
-ghost use Rattle.std.specs.Prelude.{◌≡◌, ◌*◌, ◌^◌, ◌≤◌, ◌<◌, [], ◌∷◌, length, IfOk, IsSome};
+ghost use Rattle.std.specs.Prelude.{◌≡◌, ◌≤◌, [], ◌∷◌, IfOk, IsSome};
 ghost use Rattle.zw_base.specs.Outside.{file_at};
-ghost use Rattle.wasm_form.specs.Binary.{module_bytes};
-ghost use Rattle.watch_core.specs.Compile.{compile, compiled, diag_at_start, placed, size_diags, source_diags};
-ghost use Rattle.watch_core.specs.Counts.{counts, counts_after, update_of, Nothing};
-ghost use Rattle.watch_core.specs.Front.{form_in};
-ghost use Rattle.watch_core.specs.Link.{linked};
+ghost use Rattle.zir_form.specs.Front.{front_in};
+ghost use Rattle.wasm_link.specs.Link.{linked};
+ghost use Rattle.unit_reports.specs.LinkAnswers.{link_answer};
+ghost use Rattle.root_analysis.specs.Analysis.{analysis};
+ghost use Rattle.root_analysis.specs.declared.analysis.RootAnalysis.TheVariants as analysed;
+ghost use Rattle.watch_core.specs.Answers.{analysis_answer};
+ghost use Rattle.watch_core.specs.Compile.{compile, compiled, diag_at_start, placed};
+ghost use Rattle.watch_core.specs.Counts.{counts, update_of, Nothing};
 ghost use Rattle.watch_core.specs.SessionState.{total_bytes};
 ghost use Rattle.watch_core.specs.Sources.{AreRead};
 
-use crate::form::ConstFunction;
-use crate::front::{SourceFile, found_at};
-use crate::link::link;
+use crate::front::found_at;
 use crate::placing::{diag_of, diags_of, placed};
 use crate::session::Update;
-use crate::sources::{Sources, Texts, read_source, source_at, text_of};
+use crate::sources::{Sources, Texts, front_at, read_source, text_of};
 use diag_order::Diag;
+use root_analysis::{RootAnalysis, analyse_root};
 use std::alloc::{AllocError, Global};
+use trace_log::Shared;
+use unit_reports::{LinkAnswer, link_told};
+use wasm_link::Function;
+use zir_form::Front;
 use zw_base::limits::TOTAL_BYTES;
-use zw_base::{DiagCode, FilePath};
-
-/// The units of a function: its declaration, its body and its code.
-const UNITS: u32 = 3;
+use zw_base::{DiagCode, FilePath, Found};
 
 /// The answer for the files as they stand: the diagnostics of the first case that applies, or a module.
 /// Only files that were not read as they stand are read.
@@ -59,56 +62,84 @@ fn compiled(
     ensures read { AreRead sources.new.entries files.now.entries }
 {
     read_source(alloc, files, root, sources)?;
-    let source = source_at(files, sources, root);
-    let found = source_diags(alloc, root, source)?;
-    if found.is_empty() {
-        linked(alloc, root, files, source.built.as_slice())
-    } else {
-        refused(alloc, files, found, 0)
-    }
-}
-
-/// What is wrong with a file: with its text, or else with its form.
-fn source_diags(
-    alloc: Global,
-    path: &FilePath,
-    source: &SourceFile,
-) -> Result<Vec<Diag>, AllocError>
-    ensures { IfOk result (λ v. v.items ≡ source_diags path.now (form_in source.now)) }
-{
-    let found = source.front.found.as_slice();
+    let front = front_at(files, sources, root);
+    let found = front.get().found.as_slice();
     if !found.is_empty() {
-        return diags_of(alloc, path, found);
+        let diags = diags_of(alloc, root, found)?;
+        return refused(alloc, files, diags, 0);
     }
-    match &source.built {
-        Some(_) => Ok(Vec::new(alloc)),
-        None => at_start(alloc, path, DiagCode::NotBuilt),
+    analysed(alloc, root, files, front)
+}
+
+/// The answer where nothing is wrong before any unit is analysed.
+fn analysed(
+    alloc: Global,
+    root: &FilePath,
+    files: &Texts,
+    front: &Shared<Front>,
+) -> Result<Update, AllocError>
+    requires { total_bytes files.now.entries ≤ TOTAL_BYTES }
+    ensures { IfOk result (λ u. u ≡ analysis_answer root.now files.now.entries (analysis root.now (front_in front.now))) }
+{
+    match analyse_root(alloc, root, front)? {
+        RootAnalysis::TooMany => {
+            let many = at_start(alloc, root, DiagCode::TooManyUnits)?;
+            refused(alloc, files, many, 0)
+        }
+        RootAnalysis::Told {
+            units,
+            founds,
+            functions,
+        } => told(
+            alloc,
+            root,
+            files,
+            units,
+            founds.into_vec(),
+            functions.into_vec(),
+        ),
     }
 }
 
-/// The linker's answer for these functions.
+/// The answer of so many units: their diagnostics, or what the linker makes of the functions.
+fn told(
+    alloc: Global,
+    root: &FilePath,
+    files: &Texts,
+    units: u32,
+    founds: Vec<Found>,
+    functions: Vec<Function>,
+) -> Result<Update, AllocError>
+    requires { total_bytes files.now.entries ≤ TOTAL_BYTES }
+    ensures { IfOk result (λ u. u ≡ analysis_answer root.now files.now.entries (analysed.Told units founds.items functions.items)) }
+{
+    if founds.is_empty() {
+        linked(alloc, root, files, units, functions)
+    } else {
+        let diags = diags_of(alloc, root, founds.as_slice())?;
+        refused(alloc, files, diags, units)
+    }
+}
+
+/// The linker's answer to the functions of so many units.
 fn linked(
     alloc: Global,
     root: &FilePath,
     files: &Texts,
-    functions: &[ConstFunction],
+    units: u32,
+    functions: Vec<Function>,
 ) -> Result<Update, AllocError>
-    requires few { 3 * length functions.now < 2 ^ 32 }
-    requires total { total_bytes files.now.entries ≤ TOTAL_BYTES }
-    ensures { IfOk result (λ u. let bytes = module_bytes (linked functions.now) in
-        u ≡ update_of (compiled files.now.entries (size_diags root.now bytes) bytes) (counts_after [] functions.now)) }
+    requires { total_bytes files.now.entries ≤ TOTAL_BYTES }
+    ensures { IfOk result (λ u. u ≡ update_of
+        (compiled files.now.entries [] (link_answer root.now (linked functions.items [] []))) (record { analysed = units; reused = 0 })) }
 {
-    let analysed = UNITS * functions.len() as u32;
-    match link(alloc, functions)? {
-        Some(bytes) => Ok(Update::Module {
+    match link_told(alloc, root, functions)? {
+        LinkAnswer::Module(bytes) => Ok(Update::Module {
             bytes,
-            analysed,
+            analysed: units,
             reused: 0,
         }),
-        None => {
-            let diags = at_start(alloc, root, DiagCode::ModuleTooLarge)?;
-            refused(alloc, files, diags, analysed)
-        }
+        LinkAnswer::Refused(diags) => refused(alloc, files, diags.into_vec(), units),
     }
 }
 

@@ -1,12 +1,13 @@
-// What is made of a file's text before any unit is analysed: its diagnostics, its core tree, and the
-// function of the built form that it is.
+// The front of a file: what is made of its text before any unit is analysed.
 ghost use Rattle.std.specs.Prelude.{◌≡◌, ◌+◌, ◌≤◌, ◌<◌, ◌^◌, ◌++◌, ℕ, List, Ok, Err, Some, length, IfOk, IfErr};
 ghost use Rattle.zig_token.specs.Scan.{tokens_of};
 ghost use Rattle.zig_parse.specs.Growth.{parse_of};
-ghost use Rattle.watch_core.specs.Front.{found_at, form_in, source_of, source_of_nodes, start_of, treeless};
+ghost use Rattle.zir_form.specs.Front.{front_in};
+ghost use Rattle.built_forms.specs.Unbuilt.{unbuilt};
+ghost use Rattle.watch_core.specs.Front.{faults_or, form_faults, found_at, front_of, front_of_nodes, start_of, treeless};
 ghost use Rattle.watch_core.specs.Stages.{StopsAt};
 
-use crate::form::{ConstFunction, built_of};
+use built_forms::first_unbuilt;
 use std::alloc::{AllocError, Global};
 use zig_parse::{SyntaxFault, parse};
 use zig_token::{LexFault, tokens};
@@ -16,15 +17,6 @@ use zir_form::Front;
 use zir_scope::{Scopes, resolve};
 use zw_base::limits::TOTAL_BYTES;
 use zw_base::{Bytes, DiagCode, Found, Seq, Span};
-
-/// A file as far as it is read before any unit is analysed.
-#[derive(Debug, Drop)]
-pub struct SourceFile {
-    /// Its diagnostics, and its core tree where its text is a sentence of the language.
-    pub front: Front,
-    /// The function that its text is, where it is of the one form that is built.
-    pub built: Option<ConstFunction>,
-}
 
 /// Why the stages of a file end early: its text is refused at a byte, or there was no memory.
 #[derive(Clone, Copy, Debug, PartialEq, Eq)]
@@ -44,41 +36,41 @@ impl From<AllocError> for Stop {
     }
 }
 
-/// Reads a file of the given text. Near-linear in the text.
-pub fn source_of(alloc: Global, text: &[u8]) -> Result<SourceFile, AllocError>
+/// The front of a file of the given text. Near-linear in the text.
+pub fn front_of(alloc: Global, text: &[u8]) -> Result<Front, AllocError>
     requires { length text.now ≤ TOTAL_BYTES }
-    ensures { IfOk result (λ file. form_in file ≡ source_of text.now) }
+    ensures { IfOk result (λ front. front_in front ≡ front_of text.now) }
 {
     match stages(alloc, text) {
-        Ok(file) => Ok(file),
+        Ok(front) => Ok(front),
         Err(Stop::Refused { code, at }) => treeless(alloc, code, at),
         Err(Stop::OutOfMemory) => Err(AllocError),
     }
 }
 
 /// The stages of a file, each over what those before it gave.
-fn stages(alloc: Global, text: &[u8]) -> Result<SourceFile, Stop>
+fn stages(alloc: Global, text: &[u8]) -> Result<Front, Stop>
     requires { length text.now ≤ TOTAL_BYTES }
-    ensures ok { IfOk result (λ file. form_in file ≡ source_of text.now) }
-    ensures stop { IfErr result (StopsAt (source_of text.now)) }
+    ensures ok { IfOk result (λ front. front_in front ≡ front_of text.now) }
+    ensures stop { IfErr result (StopsAt (front_of text.now)) }
 {
     let list = tokens_in(alloc, text)?;
     let tokens = list.as_slice();
     let tree = tree_of(alloc, tokens)?;
     let scopes = resolve(alloc, text, tokens, &tree)?;
     let core = astgen(alloc, text, tokens, &tree, &scopes)?;
-    let built = built_of(alloc, text, tokens)?;
-    let front = front_of(scopes, core)?;
-    Ok(SourceFile { front, built })
+    let front = with_names(scopes, core)?;
+    let front = with_forms(alloc, text, tokens, &tree, front)?;
+    Ok(front)
 }
 
 /// The tokens of a text.
-#[tactic(auto, unfolding(crate::specs::Front::source_of))]
+#[tactic(auto, unfolding(crate::specs::Front::front_of))]
 fn tokens_in(alloc: Global, text: &[u8]) -> Result<Vec<Token>, Stop>
     requires { length text.now ≤ TOTAL_BYTES }
     ensures ok { IfOk result (λ list. tokens_of text.now ≡ Ok list.items) }
     ensures few { IfOk result (λ list. length list.items < 2 ^ 32) }
-    ensures stop { IfErr result (StopsAt (source_of text.now)) }
+    ensures stop { IfErr result (StopsAt (front_of text.now)) }
 {
     match tokens(alloc, text) {
         Ok(tokens) => Ok(tokens),
@@ -94,7 +86,7 @@ fn tokens_in(alloc: Global, text: &[u8]) -> Result<Vec<Token>, Stop>
 fn tree_of(alloc: Global, tokens: &[Token]) -> Result<Tree, Stop>
     ensures ok { IfOk result (λ tree. parse_of tokens.now ≡ Ok tree.nodes) }
     ensures root { IfOk result (λ tree. tree.root + 1 ≡ length tree.nodes) }
-    ensures stop { IfErr result (λ stop. (text : List ℕ) → StopsAt (source_of_nodes text tokens.now (parse_of tokens.now)) stop) }
+    ensures stop { IfErr result (λ stop. (text : List ℕ) → StopsAt (front_of_nodes text tokens.now (parse_of tokens.now)) stop) }
 {
     match parse(alloc, tokens) {
         Ok(tree) => Ok(tree),
@@ -124,7 +116,7 @@ fn start_of(tokens: &[Token], n: u32) -> u32
 }
 
 /// The front of a file with a tree: the diagnostics of its names, then those of its builtins.
-fn front_of(scopes: Scopes, core: AstGenOut) -> Result<Front, AllocError>
+fn with_names(scopes: Scopes, core: AstGenOut) -> Result<Front, AllocError>
     ensures found { IfOk result (λ front. front.found ≡ scopes.found ++ core.found) }
     ensures zir { IfOk result (λ front. front.zir ≡ Some core.zir) }
 {
@@ -143,18 +135,56 @@ fn front_of(scopes: Scopes, core: AstGenOut) -> Result<Front, AllocError>
     })
 }
 
-/// A file without a tree.
+/// The diagnostic of the first form that is not built, if there is one.
+fn form_faults(
+    alloc: Global,
+    text: &[u8],
+    tokens: &[Token],
+    tree: &Tree,
+) -> Result<Vec<Found>, AllocError>
+    ensures { IfOk result (λ v. v.items ≡ form_faults tokens.now (unbuilt text.now tokens.now tree.now.nodes tree.now.root)) }
+{
+    match first_unbuilt(alloc, text, tokens, tree)? {
+        Some(first) => {
+            let found = found_at(alloc, DiagCode::NotBuilt, start_of(tokens, first));
+            Ok(vec![in alloc; found]?)
+        }
+        None => Ok(Vec::new(alloc)),
+    }
+}
+
+/// The front of a file whose names and builtins may be at fault: where nothing is wrong with them, it
+/// has the diagnostic of its first form that is not built.
+fn with_forms(
+    alloc: Global,
+    text: &[u8],
+    tokens: &[Token],
+    tree: &Tree,
+    front: Front,
+) -> Result<Front, AllocError>
+    ensures found { IfOk result (λ f. f.found ≡ faults_or front.found (form_faults tokens.now (unbuilt text.now tokens.now tree.now.nodes tree.now.root))) }
+    ensures zir { IfOk result (λ f. f.zir ≡ front.zir) }
+{
+    if !front.found.is_empty() {
+        return Ok(front);
+    }
+    let Front { found: _, zir } = front;
+    let found = form_faults(alloc, text, tokens, tree)?;
+    Ok(Front {
+        found: Seq::of(found),
+        zir,
+    })
+}
+
+/// The front of a file without a tree.
 #[tactic(auto, unfolding(zir_form::specs::Front::front_in))]
-fn treeless(alloc: Global, code: DiagCode, at: u32) -> Result<SourceFile, AllocError>
-    ensures { IfOk result (λ file. form_in file ≡ treeless (Some (found_at code at))) }
+fn treeless(alloc: Global, code: DiagCode, at: u32) -> Result<Front, AllocError>
+    ensures { IfOk result (λ front. front_in front ≡ treeless (Some (found_at code at))) }
 {
     let found = vec![in alloc; found_at(alloc, code, at)]?;
-    Ok(SourceFile {
-        front: Front {
-            found: Seq::of(found),
-            zir: None,
-        },
-        built: None,
+    Ok(Front {
+        found: Seq::of(found),
+        zir: None,
     })
 }
 

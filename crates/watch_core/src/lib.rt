@@ -4,19 +4,17 @@
 //! order of the paths. An update answers what the definition `compile` (`specs/Compile.antt`) says of
 //! them, diagnostics of the first case that has any or a module, with the counts of `specs/Counts.antt`.
 //! The code goes through the same cases: `front` reads a file stage by stage, once for each text that it
-//! has (`sources`), `compile` tries the cases, `link` makes the module, and `placing` puts diagnostics in
-//! their places.
+//! has (`sources`), `compile` tries the cases over what `root_analysis` tells of the units, and `placing`
+//! puts diagnostics in their places.
 //! Public calls: `Session::open`, `set_file`, `update_sole`. The crate stands on the stages of a file
-//! (`zig_token`, `zig_parse`, `zir_scope`, `zir_astgen`, with `zig_tree` and `zir_form`), and on `zw_base`,
-//! `zw_bytes`, `wasm_form` and `diag_order`.
+//! (`zig_token`, `zig_parse`, `zir_scope`, `zir_astgen`, `built_forms`, with `zig_tree` and `zir_form`), on
+//! `root_analysis` and `unit_reports`, and on `zw_base`, `trace_log`, `wasm_link` and `diag_order`.
 #![tactic(auto)]
 
 mod compile;
 #[cfg(test)]
 mod core_tests;
-mod form;
 mod front;
-mod link;
 mod placing;
 mod session;
 mod sources;

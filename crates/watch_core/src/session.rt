@@ -43,13 +43,13 @@ pub enum SetFault {
 }
 
 /// The files of a compilation, and its root.
-#[derive(Debug, Drop)]
+#[derive(Drop)]
 pub struct Session {
     root: FilePath,
     files: Texts,
     /// The bytes of all files.
     total: u64,
-    /// The files that were read, each as it stands.
+    /// The fronts of the files that were read, each as it stands.
     sources: Sources,
     jobs: u32,
     shards: u32,

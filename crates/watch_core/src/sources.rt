@@ -7,17 +7,19 @@ ghost use Rattle.diag_order.specs.Sorted.{text_in};
 ghost use Rattle.watch_core.specs.SessionState.{total_bytes, with_file};
 ghost use Rattle.watch_core.specs.Sources.{at_path, AreRead, IsRead};
 
-use crate::front::{SourceFile, source_of};
+use crate::front::front_of;
 use std::alloc::{AllocError, Global};
 use std::collections::BTreeMap;
+use trace_log::Shared;
+use zir_form::Front;
 use zw_base::limits::TOTAL_BYTES;
 use zw_base::{Bytes, FilePath};
 
 /// Files under their paths.
 pub type Texts = BTreeMap<FilePath, Bytes>;
 
-/// The files that were read, under their paths.
-pub type Sources = BTreeMap<FilePath, SourceFile>;
+/// The fronts of the files that were read, under their paths.
+pub type Sources = BTreeMap<FilePath, Shared<Front>>;
 
 /// The text of the file at a path, if it is there.
 #[tactic(auto, using(crate::proofs::FilesLemmas::at_path_is))]
@@ -56,8 +58,9 @@ pub fn read_source(
     if sources.contains_key(path) {
         return Ok(());
     }
-    let source = source_of(alloc, text_in(files, path))?;
-    sources.insert(path.clone()?, source)?;
+    let read = front_of(alloc, text_in(files, path))?;
+    let front = Shared::new(alloc, read)?;
+    sources.insert(path.clone()?, front)?;
     Ok(())
 }
 
@@ -80,8 +83,8 @@ fn has_text(files: &Texts, path: &FilePath, text: &[u8]) -> bool
     *text_in(files, path) == *text
 }
 
-/// The file at a path, which was read.
-pub fn source_at<'a>(files: &Texts, sources: &'a Sources, path: &FilePath) -> &'a SourceFile
+/// The front of the file at a path, which was read.
+pub fn front_at<'a>(files: &Texts, sources: &'a Sources, path: &FilePath) -> &'a Shared<Front>
     requires read { AreRead sources.now.entries files.now.entries }
     requires there { IsSome (at_path sources.now.entries path.now) }
     ensures { IsRead (text_in files.now.entries path.now) result.now }

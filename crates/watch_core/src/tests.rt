@@ -26,9 +26,11 @@ fn answers_for_the_files_as_they_stand(rt: HostRuntime) -> Result<(), Fail> {
         Some(DiagCode::RootMissing)
     );
 
-    for (text, len) in [
-        ("export fn f() u32 { return 0; }", 60),
-        ("export\tfn abcd ( ) u32 { // x\n return 128 ; }\n", 64),
+    for (text, len, units) in [
+        ("export fn f() u32 { return 0; }", 60, 3),
+        ("export\tfn abcd ( ) u32 { // x\n return 128 ; }\n", 64, 3),
+        ("const a = 7; export fn f() u8 { return a; }", 60, 4),
+        ("const a = a;", 36, 0),
     ] {
         session.set_file(
             FilePath::of(alloc, "m.zig")?,
@@ -42,47 +44,14 @@ fn answers_for_the_files_as_they_stand(rt: HostRuntime) -> Result<(), Fail> {
         else {
             return Err(Fail::from("no module"));
         };
-        assert_eq!(rt; (bytes.len(), analysed, reused), (len, 3, 0), "{text}");
+        assert_eq!(rt; (bytes.len(), analysed, reused), (len, units, 0), "{text}");
     }
     Ok(())
 }
 
-/// Texts with the code and the place of their one diagnostic: of the text, of its names, or else of its
-/// form.
-const ROWS: [(&str, DiagCode, u32, u32); 17] = [
-    ("", DiagCode::NotBuilt, 1, 1),
-    (
-        "export fn f() u32 { return 4294967296; }",
-        DiagCode::NotBuilt,
-        1,
-        1,
-    ),
-    (
-        "export fn f() u32 { return 0x7; }",
-        DiagCode::NotBuilt,
-        1,
-        1,
-    ),
-    (
-        "export fn f() u32 { return 1_0; }",
-        DiagCode::NotBuilt,
-        1,
-        1,
-    ),
-    ("export fn f1() u32 { return 7; }", DiagCode::NotBuilt, 1, 1),
-    (
-        "export fn @\"f\"() u32 { return 7; }",
-        DiagCode::NotBuilt,
-        1,
-        1,
-    ),
-    (
-        "export fn true() u32 { return 7; }",
-        DiagCode::NotBuilt,
-        1,
-        1,
-    ),
-    ("export fn f() u16 { return 7; }", DiagCode::NotBuilt, 1, 1),
+/// Texts with the code and the place of their one diagnostic: of the text, of its names, of a form that
+/// is not built, or of a unit.
+const ROWS: [(&str, DiagCode, u32, u32); 16] = [
     (
         "export fn f() u32 { return 07; }",
         DiagCode::BadNumber,
@@ -112,6 +81,43 @@ const ROWS: [(&str, DiagCode, u32, u32); 17] = [
         17,
     ),
     ("fn f() void { break; }", DiagCode::NothingToLeave, 1, 15),
+    (
+        "export fn memory() u32 { return 1; }",
+        DiagCode::NotBuilt,
+        1,
+        1,
+    ),
+    (
+        "export fn f(a: u32) u32 { return a; }",
+        DiagCode::NotBuilt,
+        1,
+        13,
+    ),
+    (
+        "export fn f() u32 { return 4294967296; }",
+        DiagCode::IntegerDoesNotFit,
+        1,
+        28,
+    ),
+    ("export fn f() u8 {}", DiagCode::EndsWithoutValue, 1, 11),
+    (
+        "export fn f() u8 { return a; } const a = b; const b = a;",
+        DiagCode::DeclarationLoop,
+        1,
+        38,
+    ),
+    (
+        "export fn f() bool { return 1; }",
+        DiagCode::TypesDoNotFit,
+        1,
+        29,
+    ),
+    (
+        "export fn f() void { 1; return; }",
+        DiagCode::NotBuilt,
+        1,
+        22,
+    ),
 ];
 
 #[test]

@@ -61,7 +61,7 @@ const ROWS: [(&str, usize, &[u8], u8); 9] = [
     (
         "export fn f() u32 { return 4294967296; }",
         0,
-        b"update 1 errors 1 analysed 0 reused 0\nm.zig:1:1: error: E000 this form is not built yet\n",
+        b"update 1 errors 1 analysed 3 reused 0\nm.zig:1:28: error: E308 integer does not fit its type\n",
         1,
     ),
     (
